@@ -1,0 +1,20 @@
+-- Definitions, then theorems, one subject each.
+pub mod Modular
+pub mod Lists
+pub mod Polynomial
+pub mod Congruence
+pub mod Tables
+pub mod Search
+pub mod Powers
+pub mod Twos
+pub mod Primes
+pub mod Sums
+pub mod Unity
+pub mod PolynomialLaws
+pub mod Counting
+pub mod Products
+pub mod Roots
+pub mod Division
+pub mod Pairs
+pub mod Ring
+pub mod Identities

@@ -1,0 +1,44 @@
+-- Lists, sums, products and counts.
+--
+-- tab f n         the list f 0, f 1, .., f (n - 1)
+-- sumN n f        f 0 + f 1 + .. + f (n - 1)
+-- prodN n f       f 0 × f 1 × .. × f (n - 1)
+-- All P l         every element of l satisfies P
+-- Nodup l         l has no element twice
+-- AtMost K P      every list without repetition whose elements satisfy P has at most K of them
+-- Perm n σ        σ is a permutation of 0 .. n - 1 (that it is onto follows)
+--
+-- Assumes nothing.
+use mathlib.Core.Path.{_≡_}
+use mathlib.Core.Logic.{_≢_}
+use mathlib.Core.List.{List, [], _∷_}
+use Prim.Native.Nat.{ℕ, zero, suc, _+_, _*_, _≤_, _<_}
+use lib.ListN.{length}
+
+unfoldable pub tab : (ℕ → ℕ) → ℕ → List ℕ
+tab f zero = []
+tab f (suc n) = f 0 ∷ tab (λ k. f (suc k)) n
+
+abbrev pub sumN : ℕ → (ℕ → ℕ) → ℕ
+sumN zero f = 0
+sumN (suc n) f = f n + sumN n f
+
+abbrev pub prodN : ℕ → (ℕ → ℕ) → ℕ
+prodN zero f = 1
+prodN (suc n) f = f n * prodN n f
+
+module _ {A : Type 0} where
+  abbrev pub All : (A → Type 0) → List A → Type 0
+  All P [] = Unit {0}
+  All P (x ∷ xs) = P x × All P xs
+
+  abbrev pub Nodup : List A → Type 0
+  Nodup [] = Unit {0}
+  Nodup (x ∷ xs) = All (λ y. x ≢ y) xs × Nodup xs
+
+  abbrev pub AtMost : ℕ → (A → Type 0) → Type 0
+  AtMost K P = (l : List A) → Nodup l → All P l → length l ≤ K
+
+pub record Perm (n : ℕ) (σ : ℕ → ℕ) : Type 0 where
+  pub into : (k : ℕ) → k < n → σ k < n
+  pub inj : (j k : ℕ) → j < n → k < n → σ j ≡ σ k → j ≡ k

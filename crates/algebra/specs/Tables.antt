@@ -1,0 +1,91 @@
+-- The list f 0, f 1, .., f (n - 1): its length, its elements, and the laws of a loop that writes it into a slice, one store a turn. Where i
+-- words are written, the slice is `tab f i ++ drop i o`, o being what it was.
+--
+-- length-tab, getD-tab, tab-snoc, tab-ext   of the list itself
+-- tab-getD                                  a list is the table of its own elements
+-- tab-const                                 a table of one number
+-- all-tab, nodup-tab                        every element; no element twice
+-- all-getD, all-of                          every element, by index
+-- wrote-none, wrote-more, wrote-all         the loop: before, a turn, after
+--
+-- Assumes nothing.
+use mathlib.Core.Path.{_≡_, refl, ap, ap₂, sym, _∙_}
+use mathlib.Core.Logic.{_≢_}
+use mathlib.Core.List.{List, [], _∷_, _++_, append-nil}
+use Prim.Native.Nat.{ℕ, zero, suc, _+_, _<_, _≤_}
+use native.Mathlib.Nat.{le-antisymm}
+use native.Mathlib.Numerals.{add-one}
+use native.Mathlib.Omega.{arith}
+use lib.ListN.{length, getD, set, drop, replicate}
+use lib.Seq.{set-at, drop-cons, append-snoc, drop-length}
+use Rattle.algebra.specs.Lists.{tab, All, Nodup}
+
+pub length-tab : (f : ℕ → ℕ) (n : ℕ) → length (tab f n) ≡ n
+unfolding tab
+length-tab f zero = refl
+length-tab f (suc n) = ap suc (length-tab (λ k. f (suc k)) n)
+
+pub getD-tab : (f : ℕ → ℕ) (n i : ℕ) → i < n → getD (tab f n) i 0 ≡ f i
+unfolding tab
+getD-tab f zero i h = absurd (omega arith)
+getD-tab f (suc n) zero h = refl
+getD-tab f (suc n) (suc i) h = getD-tab (λ k. f (suc k)) n i (omega arith)
+
+pub tab-snoc : (f : ℕ → ℕ) (n : ℕ) → tab f (suc n) ≡ tab f n ++ (f n ∷ [])
+unfolding tab
+tab-snoc f zero = refl
+tab-snoc f (suc n) = ap (λ (l : List ℕ). f 0 ∷ l) (tab-snoc (λ k. f (suc k)) n)
+
+pub tab-ext : (f g : ℕ → ℕ) (n : ℕ) → ((k : ℕ) → k < n → f k ≡ g k) → tab f n ≡ tab g n
+unfolding tab
+tab-ext f g zero h = refl
+tab-ext f g (suc n) h =
+    ap₂ (λ (a : ℕ) (l : List ℕ). a ∷ l) (h 0 (omega arith))
+    (tab-ext (λ k. f (suc k)) (λ k. g (suc k)) n (λ k l. h (suc k) (omega arith)))
+
+pub tab-getD : (l : List ℕ) → tab (λ k. getD l k 0) (length l) ≡ l
+unfolding tab
+tab-getD [] = refl
+tab-getD (a ∷ l) = ap (λ (m : List ℕ). a ∷ m) (tab-getD l)
+
+pub tab-const : (c n : ℕ) → tab (λ k. c) n ≡ replicate n c
+unfolding tab
+tab-const c zero = refl
+tab-const c (suc n) = ap (λ (l : List ℕ). c ∷ l) (tab-const c n)
+
+pub all-tab : (P : ℕ → Type 0) (f : ℕ → ℕ) (n : ℕ) → ((k : ℕ) → k < n → P (f k)) → All P (tab f n)
+unfolding tab
+all-tab P f zero h = tt
+all-tab P f (suc n) h = (h 0 (omega arith), all-tab P (λ k. f (suc k)) n (λ k l. h (suc k) (omega arith)))
+
+pub nodup-tab : (f : ℕ → ℕ) (n : ℕ) → ((j k : ℕ) → j < n → k < n → f j ≡ f k → j ≡ k) → Nodup (tab f n)
+unfolding tab
+nodup-tab f zero inj = tt
+nodup-tab f (suc n) inj = (
+  all-tab (λ y. f 0 ≢ y) (λ k. f (suc k)) n (λ k l e. omega (arith, inj 0 (suc k) (omega arith) (omega arith) e)),
+  nodup-tab (λ k. f (suc k)) n (λ j k h l e. omega (arith, inj (suc j) (suc k) (omega arith) (omega arith) e)),
+)
+
+pub all-getD : (P : ℕ → Type 0) (l : List ℕ) → All P l → (i : ℕ) → i < length l → P (getD l i 0)
+all-getD P [] t i h = absurd (omega arith)
+all-getD P (x ∷ xs) t zero h = t .0
+all-getD P (x ∷ xs) t (suc i) h = all-getD P xs (t .1) i (omega arith)
+
+pub all-of : (P : ℕ → Type 0) (l : List ℕ) → ((i : ℕ) → i < length l → P (getD l i 0)) → All P l
+all-of P [] h = tt
+all-of P (a ∷ l) h = (h 0 (omega arith), all-of P l (λ i k. h (suc i) (omega arith)))
+
+pub wrote-none : (f : ℕ → ℕ) (o : List ℕ) → o ≡ tab f 0 ++ drop 0 o
+unfolding tab
+wrote-none f o = refl
+
+pub wrote-more : (f : ℕ → ℕ) (i v : ℕ) (o₀ o : List ℕ) → i < length o₀ → o ≡ tab f i ++ drop i o₀ → v ≡ f i
+    → set o i v ≡ tab f (i + 1) ++ drop (i + 1) o₀
+wrote-more f i v o₀ o h e w =
+    rw (add-one i, tab-snoc f i, e, w, drop-cons o₀ i 0 h, append-snoc (tab f i) (f i))
+    (set-at (tab f i) (getD o₀ i 0) (drop (suc i) o₀) (f i) i (length-tab f i))
+
+pub wrote-all : (f : ℕ → ℕ) (i : ℕ) (o₀ o : List ℕ) → length o₀ ≤ i → i ≤ length o₀ → o ≡ tab f i ++ drop i o₀
+    → o ≡ tab f (length o₀)
+wrote-all f i o₀ o h k e =
+    let q : i ≡ length o₀ = le-antisymm k h in e ∙ rw (q, drop-length o₀) (append-nil (tab f (length o₀)))
