@@ -1,0 +1,5 @@
+-- Definitions, then theorems.
+pub mod Fields
+pub mod Reasons
+pub mod Primes
+pub mod Domain
