@@ -3,3 +3,4 @@ pub mod Fields
 pub mod Reasons
 pub mod Primes
 pub mod Domain
+pub mod ReasonLaws

@@ -1,0 +1,5 @@
+-- Definitions, then theorems.
+pub mod Transform
+pub mod Halves
+pub mod Buffers
+pub mod Interpolation
