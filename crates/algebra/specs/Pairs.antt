@@ -10,7 +10,7 @@
 --
 -- Assumes that p is prime, as a parameter.
 use mathlib.Core.Path.{_≡_, refl, sym, ap, _∙_}
-use mathlib.Core.Logic.{_≢_, _⊎_, inl, inr, ⊎-elim}
+use mathlib.Core.Logic.{_≢_, ⊎-elim}
 use mathlib.Core.List.{List, [], _∷_}
 use Prim.Native.Nat.{ℕ, zero, suc, _+_, _*_, _%_, _≤_, _<_}
 use native.Mathlib.Nat.{mod-lt, zero-lt-suc}
@@ -20,7 +20,7 @@ use lib.ListN.{length, List·getD-eq-default}
 use Rattle.algebra.specs.Modular.{Prime}
 use Rattle.algebra.specs.Lists.{prodN, AtMost, Perm}
 use Rattle.algebra.specs.Polynomial.{coef, eval, addP, scaleP, Root}
-use Rattle.algebra.specs.Congruence.{Cong, cong, _⨾_, back, cong-add, cong-on, cong-mul, cong-mod, cong-lt, cong-cancel, cong-diff, cong-same, cong-neg, is-0}
+use Rattle.algebra.specs.Congruence.{Cong, cong, _⨾_, back, cong-add, cong-mul, cong-mod, cong-lt, cong-cancel, cong-diff, cong-same, cong-neg, is-0}
 use Rattle.algebra.specs.Primes.{euclid, one-nonzero}
 use Rattle.algebra.specs.PolynomialLaws.{eval-add, eval-scale, length-add, length-scale, coef-add, coef-scale}
 use Rattle.algebra.specs.Counting.{at-most-key, at-most-image}

@@ -9,7 +9,7 @@
 -- Between natural numbers with q for minus one, `Cong` and `omega` need no such tactic: see Congruence. Worked identities: Identities.
 -- Assumes nothing.
 use mathlib.Core.Path.{_≡_, refl}
-use Prim.Native.Nat.{ℕ, _+_, _*_, _-_, _≤_, _<_}
+use Prim.Native.Nat.{ℕ, _+_, _*_, _-_, _<_}
 use native.Mathlib.Nat.{mod-lt}
 use native.Mathlib.Omega.{arith}
 use Rattle.algebra.specs.Modular.{addF, subF, mulF}

@@ -1,7 +1,7 @@
 -- The list f 0, f 1, .., f (n - 1): its length, its elements, and the laws of a loop that writes it into a slice, one store a turn. Where i
 -- words are written, the slice is `tab f i ++ drop i o`, o being what it was.
 --
--- length-tab, getD-tab, tab-snoc, tab-ext   of the list itself
+-- length-tab, getD-tab, tab-snoc, tab-add, tab-ext   of the list itself
 -- tab-getD                                  a list is the table of its own elements
 -- tab-const                                 a table of one number
 -- all-tab, nodup-tab                        every element; no element twice
@@ -9,11 +9,11 @@
 -- wrote-none, wrote-more, wrote-all         the loop: before, a turn, after
 --
 -- Assumes nothing.
-use mathlib.Core.Path.{_≡_, refl, ap, ap₂, sym, _∙_}
+use mathlib.Core.Path.{_≡_, refl, ap, ap₂, _∙_}
 use mathlib.Core.Logic.{_≢_}
 use mathlib.Core.List.{List, [], _∷_, _++_, append-nil}
 use Prim.Native.Nat.{ℕ, zero, suc, _+_, _<_, _≤_}
-use native.Mathlib.Nat.{le-antisymm}
+use native.Mathlib.Nat.{le-antisymm, zero-add, suc-add}
 use native.Mathlib.Numerals.{add-one}
 use native.Mathlib.Omega.{arith}
 use lib.ListN.{length, getD, set, drop, replicate}
@@ -42,6 +42,11 @@ tab-ext f g zero h = refl
 tab-ext f g (suc n) h =
     ap₂ (λ (a : ℕ) (l : List ℕ). a ∷ l) (h 0 (omega arith))
     (tab-ext (λ k. f (suc k)) (λ k. g (suc k)) n (λ k l. h (suc k) (omega arith)))
+
+pub tab-add : (f : ℕ → ℕ) (m n : ℕ) → tab f (m + n) ≡ tab f m ++ tab (λ k. f (m + k)) n
+unfolding tab
+tab-add f zero n = simp zero-add
+tab-add f (suc m) n = simp suc-add (ap (λ (l : List ℕ). f 0 ∷ l) (tab-add (λ k. f (suc k)) m n))
 
 pub tab-getD : (l : List ℕ) → tab (λ k. getD l k 0) (length l) ≡ l
 unfolding tab

@@ -4,7 +4,7 @@
 -- elements-of      where no number of a list is p or more, all are elements
 --
 -- Assumes nothing.
-use mathlib.Core.Path.{_≡_, refl, sym, ap, _∙_}
+use mathlib.Core.Path.{_≡_, refl}
 use mathlib.Core.Logic.{_≢_}
 use mathlib.Core.Bool.{Bool, true, false, cond}
 use mathlib.Core.List.{List, [], _∷_}
@@ -16,7 +16,6 @@ use borrow.Author.Tests.{ltb-false, leb-false}
 use Rattle.algebra.specs.Lists.{All}
 use Rattle.algebra.specs.Search.{first-is}
 use Rattle.algebra.specs.Tables.{all-of}
-use Rattle.field.specs.declared.Answer.{Answer}
 use Rattle.field.specs.Reasons.{Reason, answerOf, firstAbove}
 
 pub none-applies : (rs : List Reason) → All (λ r. r .number ≢ 0) rs → answerOf rs .number ≡ 0 → All (λ r. r .applies ≡ false) rs
