@@ -1,0 +1,3 @@
+// What the test programs share: lines of output, and buffers to lend.
+pub mod buffers;
+pub mod print;

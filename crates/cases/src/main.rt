@@ -1,0 +1,6 @@
+// Runs the public calls at the edges of document 01, and prints what they answer and what they leave in lent memory.
+//
+// One line a case: a label in words, then words and numbers. Each layer's cases are a library of their own.
+fn main() {
+    transform_cases::run();
+}
