@@ -1,0 +1,64 @@
+-- The circuit, its permutation and its gates (document 01, "Circuit, wiring and contents").
+--
+-- position n c i            the position of column c and row i: c × n + i
+-- Circuit                   the selectors of a row and the label of a position
+-- lentCircuit n s l         the circuit in lent selectors and labels, column after column: the one place that reads them
+-- lentWitness w             the wire value of a position, in a lent witness (document 01: the contents)
+-- lentPublic x              the public input of a row, in lent public inputs (document 01: public numbers); 0 past their end
+-- permutation m label k     where the copy permutation leads from position k (document 01: the wiring): the next higher of the m positions with
+--                           its label, from the highest to the lowest; a lone position leads to itself
+-- gate p n C x v i          the gate of row i: qL×a + qR×b + qO×c + qM×a×b + qC - x
+-- Satisfies p n C x v       the witness satisfies the circuit: each gate holds, and positions of equal label agree
+--
+-- Assumes nothing.
+use mathlib.Core.Path.{_≡_}
+use mathlib.Core.Bool.{true, false}
+use mathlib.Core.List.{List}
+use Prim.Native.Nat.{ℕ, suc, _+_, _*_, _%_, _-_, _<_, pred}
+use lib.Dec.{eqb, ltb}
+use lib.ListN.{getD}
+use Rattle.algebra.specs.Modular.{first}
+
+abbrev pub position : ℕ → ℕ → ℕ → ℕ
+position n c i = c * n + i
+
+pub record Circuit : Type 0 where
+  pub qL : ℕ → ℕ
+  pub qR : ℕ → ℕ
+  pub qO : ℕ → ℕ
+  pub qM : ℕ → ℕ
+  pub qC : ℕ → ℕ
+  pub label : ℕ → ℕ
+
+abbrev pub lentCircuit : ℕ → List ℕ → List ℕ → Circuit
+lentCircuit n selectors labels =
+    record {
+      qL = λ i. getD selectors (position n 0 i) 0;
+      qR = λ i. getD selectors (position n 1 i) 0;
+      qO = λ i. getD selectors (position n 2 i) 0;
+      qM = λ i. getD selectors (position n 3 i) 0;
+      qC = λ i. getD selectors (position n 4 i) 0;
+      label = λ k. getD labels k 0;
+    }
+
+abbrev pub lentWitness : List ℕ → ℕ → ℕ
+lentWitness witness k = getD witness k 0
+
+abbrev pub lentPublic : List ℕ → ℕ → ℕ
+lentPublic publics i = getD publics i 0
+
+unfoldable pub permutation : ℕ → (ℕ → ℕ) → ℕ → ℕ
+permutation m label k =
+    let higher : ℕ = first (λ j. eqb (label j) (label k)) (suc k) (m - suc k) in
+    elim (ltb higher m) [ true ↦ higher | false ↦ first (λ j. eqb (label j) (label k)) 0 m ]
+
+unfoldable pub gate : ℕ → ℕ → Circuit → (ℕ → ℕ) → (ℕ → ℕ) → ℕ → ℕ
+gate p n C x v i =
+    let a : ℕ = v (position n 0 i) in
+    let b : ℕ = v (position n 1 i) in
+    let c : ℕ = v (position n 2 i) in
+    (C .qL i * a + C .qR i * b + C .qO i * c + C .qM i * a * b + C .qC i + pred p * x i) % p
+
+pub record Satisfies (p n : ℕ) (C : Circuit) (x v : ℕ → ℕ) : Type 0 where
+  pub gates : (i : ℕ) → i < n → gate p n C x v i ≡ 0
+  pub copies : (j k : ℕ) → j < 3 * n → k < 3 * n → C .label j ≡ C .label k → v j ≡ v k

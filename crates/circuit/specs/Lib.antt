@@ -1,0 +1,5 @@
+-- Definitions, then theorems.
+pub mod Circuit
+pub mod Reasons
+pub mod Positions
+pub mod Permutation

@@ -1,0 +1,154 @@
+-- The reasons that look at the witness, and what they say: 9 and 10 apply nowhere exactly where the witness satisfies the circuit; 11 applies for few
+-- pairs.
+--
+-- satisfied            where 9 and 10 apply nowhere, the witness satisfies the circuit
+-- unbroken             where it satisfies the circuit, 9 and 10 apply nowhere
+-- factors-nonzero      where 11 applies nowhere, no factor of any D(i) is zero
+-- few-zero-factors     at most 3n × p pairs (beta, gamma) meet 11
+--
+-- Assumes nothing.
+use mathlib.Core.Path.{_≡_, refl, sym, ap, _∙_, subst}
+use mathlib.Core.Logic.{_⊎_, inl, inr}
+use mathlib.Core.Bool.{Bool, true, false, not, _&&_}
+use mathlib.Core.List.{[], _∷_}
+use Prim.Native.Nat.{ℕ, zero, suc, _+_, _*_, _%_, _<_}
+use native.Mathlib.Decide.{ℕ-discrete, decLt}
+use native.Mathlib.Omega.{arith}
+use lib.Dec.{eqb, ltb}
+use borrow.Author.Tests.{eqb-true, eqb-false, eq-eqb, ltb-true, ltb-false, not-false, not-true}
+use Rattle.algebra.specs.Modular.{first}
+use Rattle.algebra.specs.Lists.{AtMost}
+use Rattle.algebra.specs.Congruence.{Cong, cong, _⨾_, back, cong-lt, cong-cancel, cong-0, is-0}
+use Rattle.algebra.specs.Search.{first-is, first-none}
+use Rattle.algebra.specs.Counting.{at-most-of, at-most-none, at-most-or, at-most-pairs}
+use Rattle.circuit.specs.Circuit.{Circuit, position, gate, Satisfies}
+use Rattle.circuit.specs.Positions.{by-position}
+use Rattle.protocol.specs.Protocol.{factor, wiredTag, brokenGate, brokenCopy, zeroFactor}
+
+none-of : (test : ℕ → Bool) (m : ℕ) → first test 0 m ≡ m → (k : ℕ) → k < m → test k ≡ false
+none-of test m e k l = first-is test 0 m .none k (omega arith) (omega arith)
+
+-- 9 AND 10
+
+module _ (p n : ℕ) (C : Circuit) (x v : ℕ → ℕ) where
+  -- position j has the label of k and another wire value
+  abbrev clashes : ℕ → ℕ → Bool
+  clashes k j = eqb (C .label j) (C .label k) && not (eqb (v j) (v k))
+
+  pub satisfied : brokenGate p n C x v ≡ n → brokenCopy n C v ≡ 3 * n → Satisfies p n C x v
+  unfolding brokenGate brokenCopy
+  satisfied a b =
+      record {
+        gates = λ i l. eqb-true (gate p n C x v i) 0 (not-false _ (none-of _ n a i l));
+        copies = λ j k h l e. go j k h l e (decLt j k) (decLt k j);
+      }
+    where
+      lower : (j k : ℕ) → j < k → k < 3 * n → C .label j ≡ C .label k → v j ≡ v k
+      lower j k h l e =
+          let o = ltb-false _ k (none-of _ (3 * n) b k l) in
+          eqb-true (v j) (v k)
+          (not-false (eqb (v j) (v k))
+          (ap (λ (t : Bool). t && not (eqb (v j) (v k))) (sym (eq-eqb (C .label j) (C .label k) e))
+          ∙ first-is (clashes k) 0 k .none j (omega arith) (omega (arith, o))))
+
+      go : (j k : ℕ) → j < 3 * n → k < 3 * n → C .label j ≡ C .label k → Dec (j < k) → Dec (k < j) → v j ≡ v k
+      go j k h l e (yes a) d = lower j k a l e
+      go j k h l e (no a) (yes d) = sym (lower k j d h (sym e))
+      go j k h l e (no a) (no d) = ap v (omega arith)
+
+  pub unbroken : Satisfies p n C x v → (brokenGate p n C x v ≡ n) × (brokenCopy n C v ≡ 3 * n)
+  unfolding brokenGate brokenCopy
+  unbroken s = (first-none _ n gates-hold, first-none _ (3 * n) copies-agree)
+    where
+      gates-hold : (i : ℕ) → i < n → not (eqb (gate p n C x v i) 0) ≡ true → ⊥
+      gates-hold i l e = eqb-false (gate p n C x v i) 0 (not-true _ e) (s .gates i l)
+
+      never : (k j : ℕ) → j < k → k < 3 * n → (b : Bool) → eqb (C .label j) (C .label k) ≡ b → clashes k j ≡ true → ⊥
+      never k j h l true u e =
+          eqb-false (v j) (v k) (not-true _ (ap (λ (t : Bool). t && not (eqb (v j) (v k))) (sym u) ∙ e))
+          (s .copies j k (omega arith) l (eqb-true (C .label j) (C .label k) u))
+      never k j h l false u e =
+          let w : true ≡ false = sym e ∙ ap (λ (t : Bool). t && not (eqb (v j) (v k))) u in
+          let c : _≡_ {A = ℕ} 0 1 = cc in
+          omega arith
+
+      copies-agree : (k : ℕ) → k < 3 * n → ltb (first (clashes k) 0 k) k ≡ true → ⊥
+      copies-agree k l e =
+          let r = ltb-true (first (clashes k) 0 k) k e in
+          never k (first (clashes k) 0 k) r l _ refl (first-is (clashes k) 0 k .hit (omega (arith, r)))
+
+-- 11
+
+zero-product : (a b : ℕ) → a * b ≡ 0 → (a ≡ 0) ⊎ (b ≡ 0)
+zero-product zero b e = inl refl
+zero-product (suc a) zero e = inr refl
+zero-product (suc a) (suc b) e = absurd (omega arith)
+
+module _ (p n : ℕ) (C : Circuit) (v : ℕ → ℕ) where
+  -- the factor of D at position k is zero
+  abbrev Zero : ℕ → ℕ → ℕ → Type 0
+  Zero beta gamma k = Cong p (factor (wiredTag p n C) v beta gamma k) 0
+
+  module _ (beta gamma : ℕ) where
+    abbrev f : ℕ → ℕ → ℕ
+    f i c = factor (wiredTag p n C) v beta gamma (position n c i) % p
+
+    pub factors-nonzero : zeroFactor p n C v beta gamma ≡ n → (k : ℕ) → k < 3 * n → Cong p (factor (wiredTag p n C) v beta gamma k) 0 → ⊥
+    unfolding zeroFactor
+    factors-nonzero e = by-position n (λ k. Zero beta gamma k → ⊥) at
+      where
+        row : (i : ℕ) → i < n → f i 0 * f i 1 * f i 2 ≡ 0 → ⊥
+        row i l h = eqb-false _ 0 (none-of _ n e i l) h
+
+        at : (c i : ℕ) → c < 3 → i < n → Zero beta gamma (position n c i) → ⊥
+        at zero i h l u = let z : f i 0 ≡ 0 = is-0 u in row i l (rw z (omega arith))
+        at (suc zero) i h l u = let z : f i 1 ≡ 0 = is-0 u in row i l (rw z (omega arith))
+        at (suc (suc zero)) i h l u = let z : f i 2 ≡ 0 = is-0 u in row i l (rw z (omega arith))
+        at (suc (suc (suc c))) i h l u = absurd (omega arith)
+
+    zero-at : zeroFactor p n C v beta gamma < n → (k : ℕ) × (k < 3 * n) × Zero beta gamma k
+    unfolding zeroFactor
+    zero-at l = go (zero-product (f i 0 * f i 1) (f i 2) (eqb-true _ 0 (first-is test 0 n .hit (omega arith))))
+      where
+        test : ℕ → Bool
+        test i = eqb (f i 0 * f i 1 * f i 2) 0
+
+        i : ℕ
+        i = first test 0 n
+
+        at : (f i 0 ≡ 0) ⊎ (f i 1 ≡ 0) → (k : ℕ) × (k < 3 * n) × Zero beta gamma k
+        at (inl u) = (position n 0 i, omega arith, cong-0 u)
+        at (inr u) = (position n 1 i, omega arith, cong-0 u)
+
+        go : (f i 0 * f i 1 ≡ 0) ⊎ (f i 2 ≡ 0) → (k : ℕ) × (k < 3 * n) × Zero beta gamma k
+        go (inr e) = (position n 2 i, omega arith, cong-0 e)
+        go (inl e) = at (zero-product (f i 0) (f i 1) e)
+
+  -- for each beta, a position has at most one gamma
+  one-gamma : (beta k : ℕ) → AtMost 1 (λ (gamma : ℕ). (gamma < p) × Zero beta gamma k)
+  one-gamma beta k [] u t = omega arith
+  one-gamma beta k (a ∷ []) u t = omega arith
+  one-gamma beta k (a ∷ b ∷ l) u t =
+      let m : ℕ = v k + beta * wiredTag p n C k in
+      absurd (u .0 .0 (cong-lt (t .0 .0) (t .1 .0 .0)
+      (cong-cancel {c = m} {d = m} (cong (omega arith) ⨾ t .0 .1 ⨾ back (t .1 .0 .1) ⨾ cong (omega arith)) (cong refl))))
+
+  few-gammas : (beta m : ℕ) → AtMost m (λ (gamma : ℕ). (gamma < p) × ((k : ℕ) × (k < m) × Zero beta gamma k))
+  few-gammas beta zero = at-most-none (λ a h. absurd (omega (arith, h .1 .1)))
+  few-gammas beta (suc m) = at-most-of (at-most-or (few-gammas beta m) (one-gamma beta m) side) (λ a h. h) (omega arith)
+    where
+      side : (a : ℕ) → (a < p) × ((k : ℕ) × (k < suc m) × Zero beta a k)
+          → ((a < p) × ((k : ℕ) × (k < m) × Zero beta a k)) ⊎ ((a < p) × Zero beta a m)
+      side a h = go (ℕ-discrete (h .1 .0) m)
+        where
+          go : Dec (h .1 .0 ≡ m) → ((a < p) × ((k : ℕ) × (k < m) × Zero beta a k)) ⊎ ((a < p) × Zero beta a m)
+          go (yes e) = inr (h .0, subst (Zero beta a) e (h .1 .2))
+          go (no e) = inl (h .0, (h .1 .0, omega (arith, h .1 .1), h .1 .2))
+
+  pub few-zero-factors : AtMost (3 * n * p) (λ (s : ℕ × ℕ). (s .0 < p) × (s .1 < p) × (zeroFactor p n C v (s .0) (s .1) < n))
+  few-zero-factors =
+      at-most-of
+      (at-most-pairs {P = λ s. (s .0 < p) × (s .1 < p) × (zeroFactor p n C v (s .0) (s .1) < n)} p (3 * n) (λ s h. h .0)
+      (λ b l. at-most-of (few-gammas b (3 * n)) (λ c h. (h .1, zero-at b c (h .2))) (omega arith)))
+      (λ s h. h)
+      (omega arith)

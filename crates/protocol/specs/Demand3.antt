@@ -1,0 +1,168 @@
+-- Demand 3, the soundness and the completeness of the protocol, for every admissible p and n. Each challenge runs over 0 to p - 1.
+--
+-- THE STATEMENT
+-- valueAt p n f i                    the value of f at row i's point
+-- witnessOf p n wire                 the wire values that are the values of three wires at the domain points (document 01: the contents)
+-- PassingPair p n C x wire s         the pair s = (beta, gamma) is one for which some z passes the row check
+-- HoldingAlpha p n C x wire z s a    the alpha a is one for which some quotient t holds as polynomials
+-- AcceptedZeta p n C x wire z t s a e   the zeta e is one at which the point check accepts
+-- Sound p n C x wire                 how few pairs, alphas and zetas there are for a witness that does not satisfy the circuit
+-- Complete p n C x v beta gamma      what holds for a witness that satisfies it, where no factor of any D(i) is zero
+-- ZeroPair p n C v s                 the pair s is one with a zero factor of some D(i) (document 01: reason 11)
+-- Demand3 p n                        all of it, and the lengths of the prepared circuit and of the transcript
+-- THE THEOREM
+-- demand-3                           Demand3 holds for every admissible p and n
+--
+-- A cheat lays three wires, is drawn a pair, chooses z, is drawn an alpha, chooses t, is drawn a zeta. `AtMost K P` says that at most K things satisfy P;
+-- `fOf` is F of the circuit, the public inputs, the wires and z.
+-- Assumes nothing.
+use mathlib.Core.Path.{_≡_, sym, ap₂}
+use mathlib.Core.List.{List}
+use Prim.Native.Nat.{ℕ, zero, suc, _*_, _-_, _/_, _%_, _<_}
+use native.Mathlib.Nat.{mod-lt, zero-lt-suc}
+use native.Mathlib.Omega.{arith}
+use Rattle.algebra.specs.Lists.{AtMost}
+use Rattle.algebra.specs.Polynomial.{eval, timesVanishing, Elements, SameP}
+use Rattle.algebra.specs.Congruence.{Cong, cong, _⨾_, back, cong-mod}
+use Rattle.algebra.specs.Counting.{at-most-of}
+use Rattle.field.specs.Fields.{Admissible, point}
+use Rattle.field.specs.Domain.{Domain, domain}
+use Rattle.transform.specs.Interpolation.{rows-positive}
+use Rattle.circuit.specs.Circuit.{Circuit, position, Satisfies}
+use Rattle.circuit.specs.Reasons.{preparedLength, quotientLength, transcriptLength}
+use Rattle.circuit.specs.Positions.{position-column, position-row}
+use Rattle.protocol.specs.Protocol.{fOf, rowZ, prepared, wiresOf, zOf, tOf, transcript, proved, pass, rowVerdict, accept, pointVerdict, zeroFactor}
+use Rattle.protocol.specs.Lengths.{length-F-rows}
+use Rattle.protocol.specs.Layout.{prepared-elements, proved-elements}
+use Rattle.protocol.specs.Pairing.{few-pairs}
+use Rattle.protocol.specs.Challenges.{few-alphas, few-zetas}
+use Rattle.protocol.specs.Conditions.{factors-nonzero, few-zero-factors}
+use Rattle.protocol.specs.Completeness.{z-passes, t-holds, accepts}
+
+-- THE STATEMENT
+
+abbrev pub valueAt : ℕ → ℕ → List ℕ → ℕ → ℕ
+valueAt p n f i = eval f (point p n i) % p
+
+-- document 01: the contents are the values of the three wire polynomials at the row points
+abbrev pub witnessOf : ℕ → ℕ → (ℕ → List ℕ) → ℕ → ℕ
+witnessOf p n wire k = valueAt p n (wire (k / n)) (k % n)
+
+-- a cheat's three wires
+module _ (p n : ℕ) (C : Circuit) (x : ℕ → ℕ) (wire : ℕ → List ℕ) where
+  -- the row check, lent the wires' witness and the values of z at the domain points, answers pass
+  pub record PassingPair (pair : ℕ × ℕ) : Type 0 where
+    pub beta-element : pair .0 < p
+    pub gamma-element : pair .1 < p
+    pub z : List ℕ
+    pub z-elements : Elements p n z
+    pub z-passes : rowVerdict p n C x (witnessOf p n wire) (valueAt p n z) (pair .0) (pair .1) ≡ pass
+
+  -- F = t × (X^n - 1) in every coefficient, for a t of 3n - 3 elements
+  pub record HoldingAlpha (z : List ℕ) (pair : ℕ × ℕ) (alpha : ℕ) : Type 0 where
+    pub alpha-element : alpha < p
+    pub t : List ℕ
+    pub t-elements : Elements p (quotientLength n) t
+    pub t-holds : SameP p (fOf p n C x wire z (pair .0) (pair .1) alpha) (timesVanishing p n t)
+
+  -- the point check, lent the prepared circuit and the transcript of these wires, z and t, accepts
+  pub record AcceptedZeta (z t : List ℕ) (pair : ℕ × ℕ) (alpha zeta : ℕ) : Type 0 where
+    pub zeta-element : zeta < p
+    pub accepted : pointVerdict p n (prepared p n C) x (transcript wire z t) (pair .0) (pair .1) alpha zeta ≡ accept
+
+  pub record Sound : Type 0 where
+    -- the witness breaks a gate or gives one variable two values: at most (3n - 1) × p pairs let some z pass
+    pub pairs : (Satisfies p n C x (witnessOf p n wire) → ⊥) → AtMost ((3 * n - 1) * p) PassingPair
+    -- any of the other pairs, and any z: at most 2 alphas let some quotient hold
+    pub alphas : (pair : ℕ × ℕ) → pair .0 < p → pair .1 < p → (PassingPair pair → ⊥) → (z : List ℕ) → Elements p n z → AtMost 2 (HoldingAlpha z pair)
+    -- any of the other alphas, and any t: at most 4n - 4 zetas are accepted
+    pub zetas : (pair : ℕ × ℕ) (alpha : ℕ) → alpha < p → (z : List ℕ) → Elements p n z → (HoldingAlpha z pair alpha → ⊥)
+        → (t : List ℕ) → Elements p (quotientLength n) t → AtMost (4 * n - 4) (AcceptedZeta z t pair alpha)
+
+-- an honest witness
+pub record Complete (p n : ℕ) (C : Circuit) (x v : ℕ → ℕ) (beta gamma : ℕ) : Type 0 where
+  -- z on the rows passes the row check
+  pub z-passes : rowVerdict p n C x v (rowZ p n C v beta gamma) beta gamma ≡ pass
+  -- t × (X^n - 1) is F
+  pub t-holds : (alpha : ℕ)
+      → SameP p (fOf p n C x (wiresOf p n v) (zOf p n C v beta gamma) beta gamma alpha) (timesVanishing p n (tOf p n C x v beta gamma alpha))
+  -- the point check accepts a, b, c, z and t
+  pub accepted : (alpha zeta : ℕ) → pointVerdict p n (prepared p n C) x (proved p n C x v beta gamma alpha) beta gamma alpha zeta ≡ accept
+
+pub record ZeroPair (p n : ℕ) (C : Circuit) (v : ℕ → ℕ) (pair : ℕ × ℕ) : Type 0 where
+  pub beta-element : pair .0 < p
+  pub gamma-element : pair .1 < p
+  pub zero-factor : zeroFactor p n C v (pair .0) (pair .1) < n
+
+pub record Demand3 (p n : ℕ) : Type 0 where
+  -- three wires of n elements
+  pub soundness : (C : Circuit) (x : ℕ → ℕ) (wire : ℕ → List ℕ) → ((c : ℕ) → c < 3 → Elements p n (wire c)) → Sound p n C x wire
+  -- a witness that satisfies the circuit, and no zero factor of any D(i)
+  pub completeness : (C : Circuit) (x v : ℕ → ℕ) → Satisfies p n C x v → (beta gamma : ℕ) → zeroFactor p n C v beta gamma ≡ n → Complete p n C x v beta gamma
+  -- a zero factor is met for at most 3n × p pairs, whatever the witness
+  pub zero-factors : (C : Circuit) (v : ℕ → ℕ) → AtMost (3 * n * p) (ZeroPair p n C v)
+  -- preparing writes 8n elements, the prover lays 7n - 3
+  pub prepared-long : (C : Circuit) → Elements p (preparedLength n) (prepared p n C)
+  pub proved-long : (C : Circuit) (x v : ℕ → ℕ) (beta gamma alpha : ℕ) → Elements p (transcriptLength n) (proved p n C x v beta gamma alpha)
+
+-- THE PROOF
+
+module _ (q n : ℕ) (D : Domain (suc q) n) where
+  abbrev p : ℕ
+  p = suc q
+
+  module _ (C : Circuit) (x : ℕ → ℕ) (wire : ℕ → List ℕ) where
+    witness-lt : (k : ℕ) → k < 3 * n → witnessOf (suc q) n wire k < suc q
+    witness-lt k l = mod-lt _ (zero-lt-suc q)
+
+    witness-fit : (c i : ℕ) → c < 3 → i < n → Cong (suc q) (eval (wire c) (point (suc q) n i)) (witnessOf (suc q) n wire (position n c i))
+    witness-fit c i h l =
+        cong (ap₂ (λ (a b : ℕ). eval (wire a) (point p n b)) (sym (position-column n c i l)) (sym (position-row n c i l))) ⨾ back cong-mod
+
+    sound : ((c : ℕ) → c < 3 → Elements (suc q) n (wire c)) → Sound (suc q) n C x wire
+    sound elements =
+        record {
+          pairs = λ broken.
+              at-most-of (few-pairs q n D C x (witnessOf p n wire) witness-lt broken)
+              (λ s h. (h .beta-element, h .gamma-element, (valueAt p n (h .z), h .z-passes)))
+              (omega arith);
+          alphas = λ pair hb hg none z ez.
+              at-most-of
+              (few-alphas q n D C x wire z (pair .0) (pair .1) (witnessOf p n wire) witness-fit (valueAt p n z) (λ i l. back cong-mod) (mod-lt _ (zero-lt-suc q))
+              (λ e. none record { beta-element = hb; gamma-element = hg; z = z; z-elements = ez; z-passes = e }))
+              (λ alpha h. (h .alpha-element, (h .t, h .t-holds)))
+              (omega arith);
+          zetas = λ pair alpha ha z ez none t et.
+              at-most-of
+              (few-zetas q n D C x wire z (pair .0) (pair .1) (λ c h. elements c h .long) (ez .long) alpha t (4 * n - 4)
+              (length-F-rows p n C x wire z (rows-positive q n D) (λ c h. elements c h .long) (ez .long) (pair .0) (pair .1) alpha)
+              (omega (arith, et .long, rows-positive q n D))
+              (λ h. none record { alpha-element = ha; t = t; t-elements = et; t-holds = h }))
+              (λ zeta h. (h .zeta-element, h .accepted))
+              (omega arith);
+        }
+
+  complete : (C : Circuit) (x v : ℕ → ℕ) → Satisfies (suc q) n C x v → (beta gamma : ℕ) → zeroFactor (suc q) n C v beta gamma ≡ n
+      → Complete (suc q) n C x v beta gamma
+  complete C x v sat beta gamma e =
+      let h = factors-nonzero p n C v beta gamma e in
+      record {
+        z-passes = z-passes q n D C x v sat beta gamma h;
+        t-holds = t-holds q n D C x v sat beta gamma h;
+        accepted = accepts q n D C x v sat beta gamma h;
+      }
+
+  all-of-it : Demand3 (suc q) n
+  all-of-it =
+      record {
+        soundness = sound;
+        completeness = complete;
+        zero-factors = λ C v. at-most-of (few-zero-factors p n C v) (λ s h. (h .beta-element, h .gamma-element, h .zero-factor)) (omega arith);
+        prepared-long = λ C. prepared-elements p n C (zero-lt-suc q);
+        proved-long = λ C x v beta gamma alpha.
+            proved-elements p n C x v beta gamma alpha (zero-lt-suc q) (omega (arith, rows-positive q n D));
+      }
+
+pub demand-3 : (p n : ℕ) → Admissible p n → Demand3 p n
+demand-3 zero n A = absurd (omega (arith, domain zero n A .prime .two))
+demand-3 (suc q) n A = all-of-it q n (domain (suc q) n A)

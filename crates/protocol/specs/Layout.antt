@@ -1,0 +1,126 @@
+-- The layout of the prepared circuit and of the transcript: their parts, and that they are elements.
+--
+-- prepared-part           part s of the prepared circuit is polynomial s, for s below 8
+-- prepared-elements       the prepared circuit is 8n elements
+-- wire-part, z-part, t-part   the parts of a transcript
+-- proved-elements         the transcript that the prover lays is 7n - 3 elements
+-- lent-F                  F of the prepared circuit and of a transcript is F of their polynomials
+--
+-- Assumes nothing.
+use mathlib.Core.Path.{_≡_, refl, sym, ap, ap₂, _∙_, subst}
+use mathlib.Core.List.{List, [], _∷_, _++_, append-nil}
+use Prim.Native.Nat.{ℕ, zero, suc, _+_, _*_, _-_, _≤_, _<_}
+use native.Mathlib.Nat.{zero-mul}
+use native.Mathlib.Omega.{arith}
+use lib.ListN.{length, take, drop, length-append}
+use lib.Seq.{take-at, drop-at, drop-drop}
+use Rattle.algebra.specs.Lists.{All}
+use Rattle.algebra.specs.Polynomial.{Elements}
+use Rattle.algebra.specs.PolynomialLaws.{reduced-elements}
+use Rattle.transform.specs.Transform.{interpolation}
+use Rattle.transform.specs.Interpolation.{interpolation-elements}
+use Rattle.circuit.specs.Circuit.{Circuit}
+use Rattle.circuit.specs.Reasons.{preparedLength, quotientLength, transcriptLength}
+use Rattle.protocol.specs.Protocol.{fOf, polyN, polyD, gatePart, stepPart, polyF, quotient, preparedPoly, prepared, wiresOf, transcript, proved, part, pointF}
+use Rattle.protocol.specs.Lengths.{interpolation-length}
+
+-- LISTS END TO END
+
+-- f 0, f 1, .., f (c - 1), and then r
+abbrev laid : (ℕ → List ℕ) → ℕ → List ℕ → List ℕ
+laid f zero r = r
+laid f (suc c) r = f 0 ++ laid (λ s. f (suc s)) c r
+
+drop-one : (n : ℕ) (a r : List ℕ) (s : ℕ) → length a ≡ n → drop (suc s * n) (a ++ r) ≡ drop (s * n) r
+drop-one n a r s h =
+    let e : suc s * n ≡ n + s * n = omega arith in
+    ap (λ (m : ℕ). drop m (a ++ r)) e ∙ sym (drop-drop (s * n) n (a ++ r)) ∙ ap (drop (s * n)) (drop-at a r n h)
+
+laid-rest : (n : ℕ) (f : ℕ → List ℕ) (c : ℕ) (r : List ℕ) → ((s : ℕ) → s < c → length (f s) ≡ n) → drop (c * n) (laid f c r) ≡ r
+laid-rest n f zero r h = ap (λ (m : ℕ). drop m r) (zero-mul n)
+laid-rest n f (suc c) r h =
+    drop-one n (f 0) (laid (λ s. f (suc s)) c r) c (h 0 (omega arith))
+    ∙ laid-rest n (λ s. f (suc s)) c r (λ s l. h (suc s) (omega arith))
+
+laid-part : (n : ℕ) (f : ℕ → List ℕ) (c : ℕ) (r : List ℕ) → ((s : ℕ) → s < c → length (f s) ≡ n) → (s : ℕ) → s < c
+    → part n s (laid f c r) ≡ f s
+laid-part n f zero r h s l = absurd (omega arith)
+laid-part n f (suc c) r h zero l = rw (zero-mul n) (take-at (f 0) (laid (λ s. f (suc s)) c r) n (h 0 (omega arith)))
+laid-part n f (suc c) r h (suc s) l =
+    ap (take n) (drop-one n (f 0) (laid (λ s. f (suc s)) c r) s (h 0 (omega arith)))
+    ∙ laid-part n (λ s. f (suc s)) c r (λ s l. h (suc s) (omega arith)) s (omega arith)
+
+all-append : (A : ℕ → Type 0) (f g : List ℕ) → All A f → All A g → All A (f ++ g)
+all-append A [] g a b = b
+all-append A (c ∷ f) g a b = (a .0, all-append A f g (a .1) b)
+
+append-elements : {p a b : ℕ} {f g : List ℕ} → Elements p a f → Elements p b g → Elements p (a + b) (f ++ g)
+append-elements {p} {a} {b} {f} {g} u w =
+    record { long = length-append f g ∙ ap₂ _+_ (u .long) (w .long); below = all-append (λ (c : ℕ). c < p) f g (u .below) (w .below) }
+
+laid-elements : {p n m : ℕ} (f : ℕ → List ℕ) (c : ℕ) {r : List ℕ} → ((s : ℕ) → Elements p n (f s)) → Elements p m r → Elements p (c * n + m) (laid f c r)
+laid-elements {p} {n} {m} f zero {r} h e = subst (λ (k : ℕ). Elements p k r) (omega arith) e
+laid-elements {p} {n} {m} f (suc c) {r} h e =
+    subst (λ (k : ℕ). Elements p k (f 0 ++ laid (λ s. f (suc s)) c r)) (omega arith)
+    (append-elements (h 0) (laid-elements (λ s. f (suc s)) c (λ s. h (suc s)) e))
+
+-- THE PREPARED CIRCUIT
+
+module _ (p n : ℕ) (C : Circuit) where
+  prepared-laid : prepared p n C ≡ laid (preparedPoly p n C) 8 []
+  unfolding prepared
+  prepared-laid = ap (laid (preparedPoly p n C) 7) (sym (append-nil (preparedPoly p n C 7)))
+
+  pub prepared-part : (s : ℕ) → s < 8 → part n s (prepared p n C) ≡ preparedPoly p n C s
+  prepared-part s l =
+      ap (part n s) prepared-laid
+      ∙ laid-part n (preparedPoly p n C) 8 [] (λ s l. interpolation-length p n _) s l
+
+  pub prepared-elements : 0 < p → Elements p (preparedLength n) (prepared p n C)
+  prepared-elements z =
+      subst (Elements p (8 * n)) (sym prepared-laid)
+      (subst (λ (k : ℕ). Elements p k (laid (preparedPoly p n C) 8 [])) (omega arith)
+      (laid-elements (preparedPoly p n C) 8 (λ s. interpolation-elements n _ z) record { long = refl; below = tt }))
+
+-- THE TRANSCRIPT
+
+module _ (n : ℕ) (wire : ℕ → List ℕ) (z t : List ℕ) (lw : (c : ℕ) → c < 3 → length (wire c) ≡ n) where
+  pub wire-part : (c : ℕ) → c < 3 → part n c (transcript wire z t) ≡ wire c
+  wire-part c l = laid-part n wire 3 (z ++ t) lw c l
+
+  pub z-part : length z ≡ n → part n 3 (transcript wire z t) ≡ z
+  z-part h = ap (take n) (laid-rest n wire 3 (z ++ t) lw) ∙ take-at z t n h
+
+  pub t-part : length z ≡ n → drop (4 * n) (transcript wire z t) ≡ t
+  t-part h =
+      let e : 4 * n ≡ 3 * n + n = omega arith in
+      ap (λ (m : ℕ). drop m (transcript wire z t)) e
+      ∙ sym (drop-drop n (3 * n) (transcript wire z t))
+      ∙ ap (drop n) (laid-rest n wire 3 (z ++ t) lw) ∙ drop-at z t n h
+
+pub proved-elements : (p n : ℕ) (C : Circuit) (x v : ℕ → ℕ) (beta gamma alpha : ℕ) → 0 < p → 1 ≤ n
+    → Elements p (transcriptLength n) (proved p n C x v beta gamma alpha)
+unfolding quotient
+proved-elements p n C x v beta gamma alpha z h =
+    let count : 3 * n + (n + quotientLength n) ≡ 7 * n - 3 = omega arith in
+    subst (λ (m : ℕ). Elements p m (proved p n C x v beta gamma alpha)) count
+    (laid-elements (wiresOf p n v) 3 (λ c. interpolation-elements n _ z)
+    (append-elements (interpolation-elements n _ z) (reduced-elements (quotientLength n) _ z)))
+
+-- F AS IT IS LENT
+
+-- F sees the eight prepared polynomials and the three wires
+F-ext : (p n : ℕ) (pre pre′ wire wire′ : ℕ → List ℕ) (x z : List ℕ) (beta gamma alpha : ℕ)
+    → ((s : ℕ) → s < 8 → pre s ≡ pre′ s) → ((c : ℕ) → c < 3 → wire c ≡ wire′ c)
+    → polyF p n pre wire x z beta gamma alpha ≡ polyF p n pre′ wire′ x z beta gamma alpha
+unfolding polyF gatePart stepPart polyN polyD
+F-ext p n pre pre′ wire wire′ x z beta gamma alpha h k =
+    rw (h 0 (omega arith), h 1 (omega arith), h 2 (omega arith), h 3 (omega arith), h 4 (omega arith), h 5 (omega arith), h 6 (omega arith), h 7 (omega arith), k 0 (omega arith), k 1 (omega arith), k 2 (omega arith))
+
+pub lent-F : (p n : ℕ) (C : Circuit) (x : ℕ → ℕ) (wire : ℕ → List ℕ) (z t : List ℕ) → ((c : ℕ) → c < 3 → length (wire c) ≡ n) → length z ≡ n
+    → (beta gamma alpha : ℕ)
+    → pointF p n (prepared p n C) x (transcript wire z t) beta gamma alpha
+    ≡ fOf p n C x wire z beta gamma alpha
+lent-F p n C x wire z t lw lz beta gamma alpha =
+    F-ext p n _ (preparedPoly p n C) _ wire (interpolation p n x) _ beta gamma alpha (prepared-part p n C) (wire-part n wire z t lw)
+    ∙ ap (λ (y : List ℕ). fOf p n C x wire y beta gamma alpha) (z-part n wire z t lw lz)

@@ -1,0 +1,14 @@
+-- Definitions, then theorems.
+pub mod Protocol
+pub mod Domains
+pub mod Rows
+pub mod Values
+pub mod Lengths
+pub mod Layout
+pub mod Pairing
+pub mod Points
+pub mod Challenges
+pub mod Conditions
+pub mod Quotients
+pub mod Completeness
+pub mod Demand3

@@ -1,0 +1,56 @@
+-- The quotient: a polynomial that is 0 at the domain points is its quotient times X^n - 1.
+--
+-- vanishing-same     t × (X^n - 1) sees t modulo p
+-- division-reduced   the reduced quotient of m coefficients, for a polynomial of at most n + m
+-- quotient-holds     the quotient t of F, for an F of at most 4n - 3 coefficients
+--
+-- Assumes nothing.
+use mathlib.Core.Path.{_≡_, sym, ap, _∙_}
+use mathlib.Core.List.{List}
+use Prim.Native.Nat.{ℕ, suc, _+_, _*_, _-_, _≤_, _<_, pred}
+use native.Mathlib.Decide.{decLt}
+use native.Mathlib.Omega.{arith}
+use lib.ListN.{length}
+use Rattle.algebra.specs.Lists.{tab}
+use Rattle.algebra.specs.Polynomial.{coef, eval, scaleP, shift, timesVanishing, quotientVanishing, reduced, SameP}
+use Rattle.algebra.specs.Congruence.{Cong, cong, _⨾_, cong-add, cong-on}
+use Rattle.algebra.specs.Tables.{length-tab}
+use Rattle.algebra.specs.PolynomialLaws.{coef-add, coef-scale, coef-shift-low, coef-shift-high, reduced-same}
+use Rattle.algebra.specs.Division.{length-quotient, division-exact}
+use Rattle.field.specs.Fields.{point}
+use Rattle.field.specs.Domain.{Domain}
+use Rattle.transform.specs.Interpolation.{rows-positive}
+use Rattle.circuit.specs.Reasons.{quotientLength}
+use Rattle.protocol.specs.Protocol.{quotient}
+use Rattle.protocol.specs.Domains.{points-distinct, zeros}
+
+pub vanishing-same : (p n : ℕ) (t u : List ℕ) → SameP p t u → SameP p (timesVanishing p n t) (timesVanishing p n u)
+vanishing-same p n t u h k =
+    (cong (coefficient t) ⨾ cong-add (shifted (decLt k n)) (cong-on (pred p) (record { same = h k })) ⨾ cong (sym (coefficient u))) .same
+  where
+    coefficient : (f : List ℕ) → coef (timesVanishing p n f) k ≡ coef (shift n f) k + pred p * coef f k
+    coefficient f = coef-add (shift n f) (scaleP (pred p) f) k ∙ ap (λ (a : ℕ). coef (shift n f) k + a) (coef-scale (pred p) f k)
+
+    high : (f : List ℕ) (j : ℕ) → k ≡ j + n → coef (shift n f) k ≡ coef f j
+    high f j e = ap (coef (shift n f)) e ∙ coef-shift-high n f j
+
+    shifted : Dec (k < n) → Cong p (coef (shift n t) k) (coef (shift n u) k)
+    shifted (yes l) = cong (coef-shift-low n t k l ∙ sym (coef-shift-low n u k l))
+    shifted (no l) =
+        let e : k ≡ (k - n) + n = omega arith in
+        cong (high t (k - n) e) ⨾ record { same = h (k - n) } ⨾ cong (sym (high u (k - n) e))
+
+module _ (q n : ℕ) (D : Domain (suc q) n) (f : List ℕ) (zero-at : (i : ℕ) → i < n → Cong (suc q) (eval f (point (suc q) n i)) 0) where
+  abbrev p : ℕ
+  p = suc q
+
+  pub division-reduced : (m : ℕ) → length f ≤ n + m → SameP (suc q) f (timesVanishing (suc q) n (reduced (suc q) m (quotientVanishing n m f)))
+  division-reduced m fits k =
+      let pos : 0 < n = omega (arith, rows-positive q n D) in
+      let t : List ℕ = quotientVanishing n m f in
+      division-exact n m f pos fits q (D .prime) (tab (point p n) n) (omega (arith, length-tab (point p n) n)) (points-distinct q n D) (zeros q n D f zero-at) k
+      ∙ sym (vanishing-same p n (reduced p m t) t (reduced-same p m t (omega (arith, length-quotient n m f pos fits))) k)
+
+  pub quotient-holds : length f ≤ suc (4 * n - 4) → SameP (suc q) f (timesVanishing (suc q) n (quotient (suc q) n f))
+  unfolding quotient
+  quotient-holds fits = division-reduced (quotientLength n) (omega (arith, rows-positive q n D))
