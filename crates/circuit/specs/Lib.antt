@@ -1,5 +1,7 @@
 -- Definitions, then theorems.
 pub mod Circuit
 pub mod Reasons
+pub mod Promises
+pub mod Ahead
 pub mod Positions
 pub mod Permutation

@@ -4,3 +4,4 @@ pub mod SliceLaws
 pub mod Halving
 pub mod InPlaces
 pub mod Deciding
+pub mod Laying

@@ -3,3 +3,4 @@ pub mod Transform
 pub mod Halves
 pub mod Buffers
 pub mod Interpolation
+pub mod Parts

@@ -1,0 +1,4 @@
+-- Laws that the functions' proofs cite.
+pub mod Passes
+pub mod Deciding
+pub mod PartLaws

@@ -1,0 +1,59 @@
+-- What the two public calls of this crate promise.
+--
+-- Permutes p n labels positions r positions'   what `permutation` promises of its answer r and of the lent positions afterwards
+-- anyRows n                 n is a number of rows that one of the three primes has
+-- Part                      a part of a lent buffer: the buffer, where the part starts, how many numbers it has
+-- noPart transcript         the empty part at the transcript's start
+-- numberedPart n k prepared transcript     polynomial k of lent buffers of the right lengths: 0 to 7 (prepared), 8 to 10 (wires), 11 (z), 12 (t)
+-- polynomialPart n k prepared transcript   the same of any lent buffers: none where n or a length is wrong
+-- Hands P r                 what `polynomial` promises of the part r that it hands back: it has the numbers of P, and lies where they lie
+--
+-- Assumes nothing.
+use mathlib.Core.Path.{_≡_}
+use mathlib.Core.Bool.{Bool, cond, _&&_, _||_}
+use mathlib.Core.List.{List}
+use Prim.Native.Nat.{ℕ, _+_, _*_, _-_}
+use lib.Dec.{eqb, leb}
+use lib.ListN.{length, getD, take, drop}
+use denote.Ref.{RefT, now, ptr}
+use Rattle.algebra.specs.Lists.{tab}
+use Rattle.field.specs.declared.Answer.{Answer}
+use Rattle.field.specs.Fields.{isRows}
+use Rattle.field.specs.Reasons.{answerOf, isAccepted}
+use Rattle.circuit.specs.Circuit.{permutation}
+use Rattle.circuit.specs.Reasons.{labelsLength, preparedLength, quotientLength, transcriptLength, permutationReasons}
+
+-- refused: the positions as they came; accepted: the position that the permutation leads to from each. The labels are only read.
+pub record Permutes (p n : ℕ) (labels positions : List ℕ) (r : Answer) (positions' : List ℕ) : Type 0 where
+  pub answer : r ≡ answerOf (permutationReasons p n labels positions)
+  pub written : positions' ≡ cond (isAccepted r) (tab (permutation (labelsLength n) (λ k. getD labels k 0)) (labelsLength n)) positions
+
+unfoldable pub anyRows : ℕ → Bool
+anyRows n = isRows 17 n || isRows 97 n || isRows 2013265921 n
+
+pub record Part : Type 0 where
+  pub buffer : RefT (List ℕ)
+  pub start : ℕ
+  pub count : ℕ
+
+abbrev pub noPart : RefT (List ℕ) → Part
+noPart transcript = record { buffer = transcript; start = 0; count = 0 }
+
+abbrev pub numberedPart : ℕ → ℕ → RefT (List ℕ) → RefT (List ℕ) → Part
+numberedPart n k prepared transcript =
+    cond (leb k 7) (record { buffer = prepared; start = k * n; count = n })
+    (cond (leb k 10) (record { buffer = transcript; start = (k - 8) * n; count = n })
+    (cond (eqb k 11) (record { buffer = transcript; start = 3 * n; count = n })
+    (cond (eqb k 12) (record { buffer = transcript; start = 4 * n; count = quotientLength n })
+    (noPart transcript))))
+
+abbrev pub polynomialPart : ℕ → ℕ → RefT (List ℕ) → RefT (List ℕ) → Part
+polynomialPart n k prepared transcript =
+    cond (anyRows n && (eqb (length (now prepared)) (preparedLength n) && eqb (length (now transcript)) (transcriptLength n)))
+    (numberedPart n k prepared transcript)
+    (noPart transcript)
+
+-- a number takes 4 bytes
+pub record Hands (P : Part) (r : RefT (List ℕ)) : Type 0 where
+  pub numbers : now r ≡ take (P .count) (drop (P .start) (now (P .buffer)))
+  pub place : ptr r ≡ (ptr (P .buffer) .0, P .start * 4 + ptr (P .buffer) .1)
