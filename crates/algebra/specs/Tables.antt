@@ -7,6 +7,7 @@
 -- all-tab, nodup-tab                        every element; no element twice
 -- all-getD, all-of                          every element, by index
 -- wrote-none, wrote-more, wrote-all         the loop: before, a turn, after
+-- unread                                    the word that a turn is about to write is still what it was
 --
 -- Assumes nothing.
 use mathlib.Core.Path.{_≡_, refl, ap, ap₂, _∙_}
@@ -17,7 +18,7 @@ use native.Mathlib.Nat.{le-antisymm, zero-add, suc-add}
 use native.Mathlib.Numerals.{add-one}
 use native.Mathlib.Omega.{arith}
 use lib.ListN.{length, getD, set, drop, replicate}
-use lib.Seq.{set-at, drop-cons, append-snoc, drop-length}
+use lib.Seq.{set-at, drop-cons, append-snoc, drop-length, getD-drop, getD-append-add}
 use Rattle.algebra.specs.Lists.{tab, All, Nodup}
 
 pub length-tab : (f : ℕ → ℕ) (n : ℕ) → length (tab f n) ≡ n
@@ -94,3 +95,11 @@ pub wrote-all : (f : ℕ → ℕ) (i : ℕ) (o₀ o : List ℕ) → length o₀ 
     → o ≡ tab f (length o₀)
 wrote-all f i o₀ o h k e =
     let q : i ≡ length o₀ = le-antisymm k h in e ∙ rw (q, drop-length o₀) (append-nil (tab f (length o₀)))
+
+pub unread : (f : ℕ → ℕ) (i : ℕ) (o₀ o : List ℕ) → o ≡ tab f i ++ drop i o₀ → getD o i 0 ≡ getD o₀ i 0
+unread f i o₀ o e =
+    let at : i ≡ length (tab f i) + 0 = omega (arith, length-tab f i) in
+    ap₂ (λ (l : List ℕ) (n : ℕ). getD l n 0) e at
+    ∙ getD-append-add (tab f i) (drop i o₀) 0 0
+    ∙ getD-drop i o₀ 0 0
+    ∙ ap (λ (n : ℕ). getD o₀ n 0) (omega arith)

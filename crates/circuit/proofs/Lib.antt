@@ -2,3 +2,4 @@
 pub mod Passes
 pub mod Deciding
 pub mod PartLaws
+pub mod TagLaws

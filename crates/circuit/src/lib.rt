@@ -9,8 +9,11 @@ use field::Answer;
 
 mod copies;
 mod parts;
+mod tags;
 
 pub use copies::fill_permutation;
+pub use tags::own_tags;
+pub use tags::wired_tags;
 
 // Why a call of `permutation` is turned down, if it is. Nothing is written.
 fn decide(p: u32, n: u32, labels: &[u32], positions: &[u32]) -> Answer

@@ -1,6 +1,5 @@
 -- `circuit::permutation` meets its contract: where no reason applies, the labels are checked, and the permutation is filled in. Assumes nothing.
-use mathlib.Core.Path.{_≡_, ap, sym, _∙_}
-use mathlib.Core.List.{List}
+use mathlib.Core.Path.{ap, sym, _∙_}
 use borrow.Author.Tests.{eq-eqb, ne-eqb}
 use Rattle.circuit.proofs.Deciding.{Checked, checked}
 use borrow.Author.Needs.{needs}
