@@ -1,5 +1,7 @@
 -- Definitions, then theorems.
 pub mod Protocol
+pub mod Worked
+pub mod Further
 pub mod Domains
 pub mod Rows
 pub mod Values

@@ -1,0 +1,132 @@
+-- The cases that document 01 marks ★ ("On the sheet above, and at its edges"), and what its program prints, as one table under one statement.
+--
+-- circuit, publics, witness       the sheet of document 01: prime 17, two rows, no public inputs; beta, gamma, alpha, zeta are 1, 1, 2, 2
+-- lastIs11, rowIs5-7-12           the witness with the last value 11, and with row 1 as 5, 7, 12
+-- Value, Case                     a number, numbers or a verdict; what a case is about, what the definitions make of it, what document 01 says
+-- _&_                             proofs of the rows of a table, one after the other
+-- table                           the cases
+-- Worked                          the statement: every case is right, and where the contents disagree no z passes the row check
+-- worked                          it holds
+--
+-- Assumes nothing.
+use mathlib.Core.Path.{_≡_, refl, _∙_}
+use mathlib.Core.Logic.{_≢_}
+use mathlib.Core.Bool.{Bool, true, false, not}
+use mathlib.Core.List.{List, [], _∷_}
+use Prim.Native.Nat.{ℕ, _+_, _*_, _^_, _%_, pred}
+use Prim.Native.String.{String}
+use native.Mathlib.Omega.{arith}
+use lib.Dec.{eqb}
+use borrow.Author.Tests.{eqb-true}
+use Rattle.algebra.specs.Lists.{tab, All}
+use Rattle.algebra.specs.Modular.{powF, first, inverse}
+use Rattle.algebra.specs.Polynomial.{eval, quotientVanishing, reduced}
+use Rattle.field.specs.Fields.{generator, root, point, multiplier, tag}
+use Rattle.transform.specs.Transform.{interpolation}
+use Rattle.circuit.specs.Circuit.{Circuit, lentCircuit, lentWitness, lentPublic, permutation, gate}
+use Rattle.protocol.specs.Protocol.{rowN, rowD, rowZ, polyN, polyD, polyL, gatePart, stepPart, startPart, polyF, quotient, preparedPoly, prepared, wiresOf, zOf, tOf, proved, RowVerdict, pass, fails, startIdentity, stepIdentity, rowsFrom, rowVerdict, PointVerdict, accept, pointVerdict, brokenGate, brokenCopy, zeroFactor}
+
+-- THE SHEET
+
+abbrev pub circuit : Circuit
+circuit = lentCircuit 2 (0 ∷ 1 ∷ 0 ∷ 1 ∷ 16 ∷ 16 ∷ 1 ∷ 0 ∷ 0 ∷ 0 ∷ []) (0 ∷ 2 ∷ 1 ∷ 2 ∷ 2 ∷ 3 ∷ [])
+
+abbrev pub publics : ℕ → ℕ
+publics = lentPublic []
+
+abbrev pub witness : ℕ → ℕ
+witness = lentWitness (2 ∷ 6 ∷ 3 ∷ 6 ∷ 6 ∷ 12 ∷ [])
+
+abbrev pub lastIs11 : ℕ → ℕ
+lastIs11 = lentWitness (2 ∷ 6 ∷ 3 ∷ 6 ∷ 6 ∷ 11 ∷ [])
+
+abbrev pub rowIs5-7-12 : ℕ → ℕ
+rowIs5-7-12 = lentWitness (2 ∷ 5 ∷ 3 ∷ 7 ∷ 6 ∷ 12 ∷ [])
+
+-- F and t at beta 1, gamma 1, alpha 2
+abbrev F : List ℕ
+F = polyF 17 2 (preparedPoly 17 2 circuit) (wiresOf 17 2 witness) (interpolation 17 2 publics) (zOf 17 2 circuit witness 1 1) 1 1 2
+
+abbrev t : List ℕ
+t = tOf 17 2 circuit publics witness 1 1 2
+
+-- THE TABLE
+
+pub data Value : Type 0 where
+  number : ℕ → Value
+  numbers : List ℕ → Value
+  rows : RowVerdict → Value
+  atPoint : PointVerdict → Value
+
+pub record Case : Type 0 where
+  pub what : String
+  pub is : Value
+  pub should : Value
+
+-- the rows of a table are right, one after the other
+infixr 20 _&_
+abbrev pub _&_ : {A B : Type 0} → A → B → A × B
+a & b = (a, b)
+
+abbrev pub table : List Case
+table =
+    record { what = "marks"; is = numbers (tab (tag 17 2) 6); should = numbers (1 ∷ 16 ∷ 3 ∷ 14 ∷ 9 ∷ 8 ∷ []) }
+    ∷ record { what = "wiring"; is = numbers (tab (permutation 6 (circuit .label)) 6); should = numbers (0 ∷ 3 ∷ 2 ∷ 4 ∷ 1 ∷ 5 ∷ []) }
+    ∷ record { what = "N"; is = numbers (tab (rowN 17 2 witness 1 1) 2); should = numbers (6 ∷ 11 ∷ []) }
+    ∷ record { what = "D"; is = numbers (tab (rowD 17 2 circuit witness 1 1) 2); should = numbers (15 ∷ 1 ∷ []) }
+    ∷ record { what = "z on the rows"; is = numbers (tab (rowZ 17 2 circuit witness 1 1) 2); should = numbers (1 ∷ 14 ∷ []) }
+    ∷ record { what = "F(2)"; is = number (eval F 2 % 17); should = number 7 }
+    ∷ record { what = "t(2)"; is = number (eval t 2 % 17); should = number 8 }
+    ∷ record { what = "2^2 - 1"; is = number ((2 ^ 2 + pred 17) % 17); should = number 3 }
+    ∷ record { what = "last content 11: 9 at row"; is = number (brokenGate 17 2 circuit publics lastIs11); should = number 1 }
+    ∷ record { what = "row 1 as 5,7,12: 9 at no row"; is = number (brokenGate 17 2 circuit publics rowIs5-7-12); should = number 2 }
+    ∷ record { what = "row 1 as 5,7,12: 10 at position"; is = number (brokenCopy 2 circuit rowIs5-7-12); should = number 3 }
+    ∷ record { what = "row 1 as 5,7,12, beta 0, gamma 1: z = 1"; is = rows (rowVerdict 17 2 circuit publics rowIs5-7-12 (λ i. 1) 0 1); should = rows pass }
+    ∷ record { what = "9 at no row"; is = number (brokenGate 17 2 circuit publics witness); should = number 2 }
+    ∷ record { what = "10 at no position"; is = number (brokenCopy 2 circuit witness); should = number 6 }
+    ∷ record { what = "gamma 1: 11 at no row"; is = number (zeroFactor 17 2 circuit witness 1 1); should = number 2 }
+    ∷ record { what = "gamma 14: 11 at row"; is = number (zeroFactor 17 2 circuit witness 1 14); should = number 0 }
+    ∷ record { what = "gamma 2: 11 at row"; is = number (zeroFactor 17 2 circuit witness 1 2); should = number 1 }
+    ∷ record { what = "a"; is = numbers (wiresOf 17 2 witness 0); should = numbers (4 ∷ 15 ∷ []) }
+    ∷ record { what = "b"; is = numbers (wiresOf 17 2 witness 1); should = numbers (13 ∷ 7 ∷ []) }
+    ∷ record { what = "c"; is = numbers (wiresOf 17 2 witness 2); should = numbers (9 ∷ 14 ∷ []) }
+    ∷ record { what = "z"; is = numbers (zOf 17 2 circuit witness 1 1); should = numbers (16 ∷ 2 ∷ []) }
+    ∷ record { what = "t"; is = numbers t; should = numbers (9 ∷ 12 ∷ 15 ∷ []) }
+    ∷ record { what = "zeta 2"; is = atPoint (pointVerdict 17 2 (prepared 17 2 circuit) publics (proved 17 2 circuit publics witness 1 1 2) 1 1 2 2); should = atPoint accept }
+    ∷ []
+
+-- THE STATEMENT
+
+pub record Worked : Type 0 where
+  pub cases : All (λ r. r .is ≡ r .should) table
+  -- row 1 as 5, 7, 12, beta 1, gamma 1: whatever the row values of z are
+  pub no-z : (z : ℕ → ℕ) → rowVerdict 17 2 circuit publics rowIs5-7-12 z 1 1 ≢ pass
+
+right : All (λ r. r .is ≡ r .should) table
+unfolding tab powF first inverse quotientVanishing reduced generator root point multiplier tag interpolation permutation gate rowN rowD rowZ polyN polyD polyL gatePart stepPart startPart polyF quotient prepared rowsFrom pointVerdict brokenGate brokenCopy zeroFactor
+right = refl & refl & refl & refl & refl & refl & refl & refl & refl & refl & refl & refl & refl & refl & refl & refl & refl & refl & refl & refl & refl & refl & refl & tt
+
+-- N is 6, 15 and D is 15, 0: the two steps ask for z(1) × 15 to be 6, and to be 0
+abbrev byTests : Bool → Bool → Bool → RowVerdict
+byTests start step0 step1 =
+    elim (not start) [
+      | true ↦ fails startIdentity 0
+      | false ↦ elim step0 [ false ↦ fails stepIdentity 0 | true ↦ elim step1 [ false ↦ fails stepIdentity 1 | true ↦ pass ] ]
+    ]
+
+no-z : (z : ℕ → ℕ) → rowVerdict 17 2 circuit publics rowIs5-7-12 z 1 1 ≢ pass
+unfolding tab powF first inverse generator root point multiplier tag permutation gate rowN rowD rowsFrom
+no-z z e = go (eqb (z 0) 1) (eqb (z 0 * 6 % 17) (z 1 * 15 % 17)) (eqb (z 1 * 15 % 17) (z 0 * 0 % 17)) refl refl refl e
+  where
+    go : (start step0 step1 : Bool) → eqb (z 0) 1 ≡ start → eqb (z 0 * 6 % 17) (z 1 * 15 % 17) ≡ step0 → eqb (z 1 * 15 % 17) (z 0 * 0 % 17) ≡ step1
+        → byTests start step0 step1 ≢ pass
+    go true true true u v w s =
+        let e : z 0 * 6 % 17 ≡ z 0 * 0 % 17 = eqb-true (z 0 * 6 % 17) (z 1 * 15 % 17) v ∙ eqb-true (z 1 * 15 % 17) (z 0 * 0 % 17) w in
+        let six : _≡_ {A = ℕ} 6 0 = rw (eqb-true (z 0) 1 u) at e in
+        omega arith
+    go true true false u v w s = let n : _≡_ {A = ℕ} 0 1 = cc in omega arith
+    go true false c u v w s = let n : _≡_ {A = ℕ} 0 1 = cc in omega arith
+    go false b c u v w s = let n : _≡_ {A = ℕ} 0 1 = cc in omega arith
+
+pub worked : Worked
+worked = record { cases = right; no-z = no-z }
