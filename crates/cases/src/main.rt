@@ -3,4 +3,5 @@
 // One line a case: a label in words, then words and numbers. Each layer's cases are a library of their own.
 fn main() {
     transform_cases::run();
+    circuit_cases::run();
 }
