@@ -1,22 +1,27 @@
 -- Laws of the reasons for turning a call down.
 --
 -- none-applies     an answer with number 0 means that no reason of the list applies (no reason has number 0)
+-- answerOf-append  of two lists of reasons: the answer of the first, unless none of its reasons applies
 -- elements-of      where no number of a list is p or more, all are elements
+-- firstAbove-le    the place of the first number that is p or more is at most the length
+-- firstAbove-append  of two lists end to end: the place in the first, or else the length of the first + the place in the second
 --
 -- Assumes nothing.
-use mathlib.Core.Path.{_≡_, refl}
+use mathlib.Core.Path.{_≡_, refl, ap, _∙_}
 use mathlib.Core.Logic.{_≢_}
 use mathlib.Core.Bool.{Bool, true, false, cond}
-use mathlib.Core.List.{List, [], _∷_}
-use Prim.Native.Nat.{ℕ, _<_}
+use mathlib.Core.List.{List, [], _∷_, _++_}
+use Prim.Native.Nat.{ℕ, _+_, _-_, _≤_, _<_}
+use native.Mathlib.Decide.{decLt}
 use native.Mathlib.Omega.{arith}
 use lib.Dec.{leb, ltb}
-use lib.ListN.{length, getD}
-use borrow.Author.Tests.{ltb-false, leb-false}
+use lib.ListN.{length, getD, length-append, List·getD-append}
+use lib.Seq.{getD-append-add}
+use borrow.Author.Tests.{ltb-false, leb-false, lt-ltb, le-ltb, ne-eqb}
 use Rattle.algebra.specs.Lists.{All}
-use Rattle.algebra.specs.Search.{first-is}
+use Rattle.algebra.specs.Search.{First, first-is}
 use Rattle.algebra.specs.Tables.{all-of}
-use Rattle.field.specs.Reasons.{Reason, answerOf, firstAbove}
+use Rattle.field.specs.Reasons.{Reason, answerOf, isAccepted, firstAbove}
 
 pub none-applies : (rs : List Reason) → All (λ r. r .number ≢ 0) rs → answerOf rs .number ≡ 0 → All (λ r. r .applies ≡ false) rs
 none-applies [] n e = tt
@@ -27,8 +32,91 @@ none-applies (r ∷ rs) n e = go (r .applies) refl e (none-applies rs (n .1))
     go true u f later = absurd (n .0 f)
     go false u f later = (u, later f)
 
+pub answerOf-append : (rs ss : List Reason) → All (λ r. r .number ≢ 0) rs
+    → answerOf (rs ++ ss) ≡ cond (isAccepted (answerOf rs)) (answerOf ss) (answerOf rs)
+answerOf-append [] ss n = refl
+answerOf-append (r ∷ rs) ss n = go (r .applies) (answerOf-append rs ss (n .1))
+  where
+    go : (b : Bool) → answerOf (rs ++ ss) ≡ cond (isAccepted (answerOf rs)) (answerOf ss) (answerOf rs)
+        → cond b (record { number = r .number; detail = r .detail }) (answerOf (rs ++ ss))
+        ≡ cond (isAccepted (cond b (record { number = r .number; detail = r .detail }) (answerOf rs))) (answerOf ss) (cond b (record { number = r .number; detail = r .detail }) (answerOf rs))
+    go true e = rw (ne-eqb _ _ (n .0))
+    go false e = e
+
 pub elements-of : (p : ℕ) (xs : List ℕ) → ltb (firstAbove p xs) (length xs) ≡ false → All (λ (x : ℕ). x < p) xs
 unfolding firstAbove
 elements-of p xs e =
     all-of (λ (x : ℕ). x < p) xs
     (λ i h. leb-false p (getD xs i 0) (first-is (λ k. leb p (getD xs k 0)) 0 (length xs) .none i (omega arith) (omega (arith, ltb-false (firstAbove p xs) (length xs) e))))
+
+pub firstAbove-le : (p : ℕ) (xs : List ℕ) → firstAbove p xs ≤ length xs
+unfolding firstAbove
+firstAbove-le p xs = omega (arith, first-is (λ k. leb p (getD xs k 0)) 0 (length xs) .high)
+
+-- what is first is so once
+not-both : {b : Bool} → b ≡ true → b ≡ false → ⊥
+not-both e f = let z : _≡_ {A = ℕ} 0 1 = cc in omega arith
+
+first-same : {test : ℕ → Bool} {n r s : ℕ} → First test 0 n r → First test 0 n s → r ≡ s
+first-same {test} {n} {r} {s} f g = go (decLt r s) (decLt s r)
+  where
+    go : Dec (r < s) → Dec (s < r) → r ≡ s
+    go (yes h) k = absurd (not-both (f .hit (omega (arith, g .high))) (g .none r (omega arith) h))
+    go (no h) (yes k) = absurd (not-both (g .hit (omega (arith, f .high))) (f .none s (omega arith) k))
+    go (no h) (no k) = omega arith
+
+module _ (p : ℕ) (xs ys : List ℕ) where
+  above : List ℕ → ℕ → Bool
+  above zs k = leb p (getD zs k 0)
+
+  left-word : (k : ℕ) → k < length xs → above (xs ++ ys) k ≡ above xs k
+  unfolding above
+  left-word k h = ap (λ (x : ℕ). leb p x) (List·getD-append xs ys 0 k h)
+
+  right-word : (k : ℕ) → length xs ≤ k → above (xs ++ ys) k ≡ above ys (k - length xs)
+  unfolding above
+  right-word k h =
+      let at : k ≡ length xs + (k - length xs) = omega arith in
+      ap (λ (i : ℕ). leb p (getD (xs ++ ys) i 0)) at ∙ ap (λ (x : ℕ). leb p x) (getD-append-add xs ys (k - length xs) 0)
+
+  in-left : firstAbove p xs < length xs → First (above (xs ++ ys)) 0 (length (xs ++ ys)) (firstAbove p xs)
+  unfolding above firstAbove
+  in-left h =
+      let f = first-is (above xs) 0 (length xs) in
+      record {
+        low = omega arith;
+        high = omega (arith, length-append xs ys);
+        none = λ j l k. left-word j (omega arith) ∙ f .none j l k;
+        hit = λ l. left-word (firstAbove p xs) h ∙ f .hit (omega arith);
+      }
+
+  in-right : length xs ≤ firstAbove p xs → First (above (xs ++ ys)) 0 (length (xs ++ ys)) (length xs + firstAbove p ys)
+  unfolding above firstAbove
+  in-right h =
+      let f = first-is (above xs) 0 (length xs) in
+      let g = first-is (above ys) 0 (length ys) in
+      let back : length xs + firstAbove p ys - length xs ≡ firstAbove p ys = omega arith in
+      record {
+        low = omega arith;
+        high = omega (arith, length-append xs ys, g .high);
+        none = λ j l k. go j k (decLt j (length xs));
+        hit = λ l.
+            right-word (length xs + firstAbove p ys) (omega arith) ∙ ap (above ys) back
+            ∙ g .hit (omega (arith, length-append xs ys));
+      }
+    where
+      go : (j : ℕ) → j < length xs + firstAbove p ys → Dec (j < length xs) → above (xs ++ ys) j ≡ false
+      go j k (yes u) = left-word j u ∙ first-is (above xs) 0 (length xs) .none j (omega arith) (omega arith)
+      go j k (no u) =
+          right-word j (omega arith) ∙ first-is (above ys) 0 (length ys) .none (j - length xs) (omega arith) (omega arith)
+
+  pub firstAbove-append : firstAbove p (xs ++ ys) ≡ cond (ltb (firstAbove p xs) (length xs)) (firstAbove p xs) (length xs + firstAbove p ys)
+  unfolding above firstAbove
+  firstAbove-append = go (decLt (firstAbove p xs) (length xs))
+    where
+      f : First (above (xs ++ ys)) 0 (length (xs ++ ys)) (firstAbove p (xs ++ ys))
+      f = first-is (above (xs ++ ys)) 0 (length (xs ++ ys))
+
+      go : Dec (firstAbove p xs < length xs) → firstAbove p (xs ++ ys) ≡ cond (ltb (firstAbove p xs) (length xs)) (firstAbove p xs) (length xs + firstAbove p ys)
+      go (yes h) = rw (lt-ltb (firstAbove p xs) (length xs) h) (first-same f (in-left h))
+      go (no h) = rw (le-ltb (firstAbove p xs) (length xs) (omega arith)) (first-same f (in-right (omega arith)))

@@ -54,7 +54,7 @@ all-append : (A : ℕ → Type 0) (f g : List ℕ) → All A f → All A g → A
 all-append A [] g a b = b
 all-append A (c ∷ f) g a b = (a .0, all-append A f g (a .1) b)
 
-append-elements : {p a b : ℕ} {f g : List ℕ} → Elements p a f → Elements p b g → Elements p (a + b) (f ++ g)
+pub append-elements : {p a b : ℕ} {f g : List ℕ} → Elements p a f → Elements p b g → Elements p (a + b) (f ++ g)
 append-elements {p} {a} {b} {f} {g} u w =
     record { long = length-append f g ∙ ap₂ _+_ (u .long) (w .long); below = all-append (λ (c : ℕ). c < p) f g (u .below) (w .below) }
 

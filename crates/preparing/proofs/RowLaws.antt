@@ -1,0 +1,96 @@
+-- The row values that preparing interpolates.
+--
+-- labels-of        3n labels below 3n are what the permutation asks
+-- rest-length      the words behind the selectors are 3n
+-- both-parts       the selectors in front and the tags behind make the row values
+-- rows-elements    the row values are 8n elements
+-- rows-prepared    the polynomials of the eight runs are the prepared circuit
+--
+-- Assumes nothing.
+use mathlib.Core.Path.{_≡_, refl, ap, sym, subst, _∙_}
+use mathlib.Core.List.{List, _++_, append-assoc, append-nil}
+use Prim.Native.Nat.{ℕ, _+_, _*_, _-_, _<_}
+use native.Mathlib.Nat.{mul-le-mul-right}
+use native.Mathlib.Omega.{arith}
+use lib.ListN.{length, getD, take, drop, length-take, length-drop, length-append, List·getD-append}
+use lib.Seq.{getD-append-add, take-at, drop-at, drop-length}
+use borrow.Rule.Slice.PartMut.{putMid}
+use Rattle.algebra.specs.Lists.{tab}
+use Rattle.algebra.specs.Polynomial.{Elements}
+use Rattle.algebra.specs.Tables.{length-tab, getD-tab, all-tab}
+use Rattle.field.specs.Fields.{Admissible, tag}
+use Rattle.field.specs.Primes.{rows-power, field-prime}
+use Rattle.field.specs.Domain.{tag-lt}
+use Rattle.transform.specs.Transform.{interpolation}
+use Rattle.transform.specs.Interpolation.{interpolation-ext}
+use Rattle.transform.specs.Parts.{laid, interpolated}
+use Rattle.circuit.specs.Circuit.{lentCircuit, permutation, position}
+use Rattle.circuit.specs.Ahead.{Labels}
+use Rattle.circuit.specs.Reasons.{selectorsLength}
+use Rattle.protocol.specs.Protocol.{prepared, wiredTag}
+use Rattle.protocol.specs.Layout.{append-elements}
+use Rattle.preparing.specs.Promises.{rowsOf}
+
+pub labels-of : {p : ℕ} (n : ℕ) (labels : List ℕ) → Elements (3 * n) (3 * n) labels → Admissible p n → Labels labels
+labels-of {p} n labels e A =
+    record {
+      few = omega (arith, e .long, rows-power p n (A .rows) .small);
+      below = subst (λ (m : ℕ). Elements m (3 * n) labels) (sym (e .long)) e .below;
+    }
+
+pub rest-length : (n a : ℕ) (out e : List ℕ) → a ≡ 5 * n → length out ≡ 8 * n → length e ≡ length (take a out)
+    → length (take (length (e ++ drop a out) - a) (drop a (e ++ drop a out))) ≡ 3 * n
+rest-length n a out e q l k =
+    let h : length e ≡ a = k ∙ simp length-take (omega arith) in
+    rw (drop-at e (drop a out) a h) (simp (length-take, length-append, length-drop) (omega arith))
+
+pub both-parts : (selectors out e w tags : List ℕ) → e ≡ selectors → w ≡ tags
+    → putMid (length selectors) (length (e ++ drop (length selectors) out) - length selectors) (e ++ drop (length selectors) out) w ≡ selectors ++ tags
+both-parts selectors out e w tags f g =
+    let h = length selectors in
+    let le : length e ≡ length selectors = ap length f in
+    let z : length (e ++ drop h out) - h ≡ length (drop h out) = simp (length-append, length-drop) (omega (arith, le)) in
+    rw (drop-at e (drop h out) h le, z, drop-length (drop h out), take-at e (drop h out) h le, append-nil w, f, g) refl
+
+pub rows-elements : (p n : ℕ) (selectors labels : List ℕ) → Admissible p n → Elements p (selectorsLength n) selectors → Elements p (8 * n) (rowsOf p n selectors labels)
+rows-elements p n selectors labels A e =
+    let sum : 5 * n + 3 * n ≡ 8 * n = omega arith in
+    let pos : 0 < p = omega (arith, field-prime p (A .one-of-three) .two) in
+    subst (λ (m : ℕ). Elements p m (rowsOf p n selectors labels)) sum
+    (append-elements e
+    record { long = length-tab _ (3 * n); below = all-tab (λ (a : ℕ). a < p) _ (3 * n) (λ k h. tag-lt p n _ pos) })
+
+module _ (p n : ℕ) (selectors labels : List ℕ) (l : length selectors ≡ selectorsLength n) where
+  abbrev tags : List ℕ
+  tags = tab (λ k. tag p n (permutation (3 * n) (λ j. getD labels j 0) k)) (3 * n)
+
+  abbrev run : ℕ → List ℕ
+  run s = interpolation p n (λ i. getD (selectors ++ tags) (s * n + i) 0)
+
+  -- a run of the selectors, and one of the tags
+  front-run : (s : ℕ) → s < 5 → run s ≡ interpolation p n (λ i. getD selectors (s * n + i) 0)
+  front-run s h =
+      interpolation-ext p n _ _ (λ i k. List·getD-append selectors tags 0 (s * n + i) (omega (arith, l, mul-le-mul-right {m = s + 1} {n = 5} n (omega arith))))
+
+  back-run : (c : ℕ) → c < 3 → run (5 + c) ≡ interpolation p n (λ i. wiredTag p n (lentCircuit n selectors labels) (position n c i))
+  back-run c h =
+      interpolation-ext p n _ _ (λ i k.
+      let at : (5 + c) * n + i ≡ length selectors + (c * n + i) = omega (arith, l) in
+      ap (λ (j : ℕ). getD (selectors ++ tags) j 0) at
+      ∙ getD-append-add selectors tags (c * n + i) 0
+      ∙ getD-tab _ (3 * n) (c * n + i) (omega (arith, mul-le-mul-right {m = c + 1} {n = 3} n (omega arith))))
+
+  pub rows-prepared : interpolated p n (rowsOf p n selectors labels) 8 ≡ prepared p n (lentCircuit n selectors labels)
+  unfolding laid prepared
+  rows-prepared =
+      rw (
+        front-run 0 (omega arith),
+        front-run 1 (omega arith),
+        front-run 2 (omega arith),
+        front-run 3 (omega arith),
+        front-run 4 (omega arith),
+        back-run 0 (omega arith),
+        back-run 1 (omega arith),
+        back-run 2 (omega arith),
+      )
+      (simp append-assoc)

@@ -1,0 +1,97 @@
+// Preparing a circuit: the eight polynomials of its selectors and of the tags of where the permutation leads.
+ghost use mathlib.Core.Path.{_≡_};
+ghost use Prim.Native.Nat.{_*_};
+ghost use lib.ListN.{length, replicate};
+ghost use Rattle.algebra.specs.Polynomial.{Elements};
+ghost use Rattle.field.specs.Reasons.{answerOf};
+ghost use Rattle.transform.specs.Transform.{scratchLength};
+ghost use Rattle.circuit.specs.Circuit.{lentCircuit};
+ghost use Rattle.circuit.specs.Points.{Points};
+ghost use Rattle.circuit.specs.Reasons.{prepareReasons};
+ghost use Rattle.protocol.specs.Protocol.{prepared};
+ghost use Rattle.preparing.specs.Promises.{Prepares, Checked, rowsOf};
+use field::Answer;
+
+// Why a call is turned down, if it is. Nothing is written.
+fn decide(
+    p: u32,
+    n: u32,
+    selectors: &[u32],
+    labels: &[u32],
+    written: &[u32],
+    scratch: &[u32],
+) -> Answer
+    ensures { λ r. ⌜ r ≡ answerOf (prepareReasons p n (now (selectors .entry)) (now (labels .entry)) (now (written .entry)) (now (scratch .entry))) ⌝ }
+{
+    if !field::is_field(p) {
+        return field::refused(2, 0);
+    }
+    if !field::is_rows(p, n) {
+        return field::refused(3, 0);
+    }
+    let m = n as usize;
+    if selectors.len() != 5 * m {
+        return field::refused(6, 1);
+    }
+    if labels.len() != 3 * m {
+        return field::refused(6, 2);
+    }
+    if written.len() != 8 * m {
+        return field::refused(6, 3);
+    }
+    if scratch.len() != 16 * m {
+        return field::refused(6, 4);
+    }
+    let element = field::first_above(p, selectors);
+    if element < 5 * m {
+        return field::refused(7, element as u32);
+    }
+    let label = field::first_above(3 * n, labels);
+    if label < 3 * m {
+        return field::refused(8, label as u32);
+    }
+    field::accepted()
+}
+
+// The row values of the eight polynomials, end to end: the selectors, then the tags of where the permutation leads.
+fn fill_rows(p: u32, n: u32, powers: &[u32], selectors: &[u32], labels: &[u32], out: &mut [u32])
+    requires { ⌜ Points p n (now powers) ⌝ }
+    requires { ⌜ (length (now selectors) ≡ 5 * n) × Elements (3 * n) (3 * n) (now labels) × (length (now out) ≡ 8 * n) ⌝ }
+    ensures { λ _. ⌜ now (out .exit) ≡ rowsOf p n (now (selectors .entry)) (now (labels .entry)) ⌝ }
+{
+    let m = selectors.len();
+    transform::slices::copy(selectors, &mut out[..m]);
+    circuit::wired_tags(p, n, powers, labels, &mut out[m..]);
+}
+
+// The work on checked numbers: the row values, each run of n of them interpolated in place, and the scratch cleared.
+fn work(p: u32, n: u32, selectors: &[u32], labels: &[u32], out: &mut [u32], scratch: &mut [u32])
+    requires { ⌜ Checked p n (now selectors) (now labels) (now out) (now scratch) ⌝ }
+    ensures { λ _. ⌜ now (out .exit) ≡ prepared p n (lentCircuit n (now (selectors .entry)) (now (labels .entry))) ⌝ }
+    ensures { λ _. ⌜ now (scratch .exit) ≡ replicate (scratchLength n) 0 ⌝ }
+{
+    let m = n as usize;
+    let powers = field::domain_points(p, n);
+    fill_rows(p, n, &powers[..m], selectors, labels, out);
+    transform::interpolate_parts(p, n, &powers[..m], out, &mut scratch[..m], 8);
+    transform::slices::clear(scratch);
+}
+
+// The prepared circuit: qL, qR, qO, qM, qC and the three polynomials of the tags of where the permutation leads, end to end.
+pub fn prepare(
+    p: u32,
+    n: u32,
+    selectors: &[u32],
+    labels: &[u32],
+    written: &mut [u32],
+    scratch: &mut [u32],
+) -> Answer
+    ensures { λ r. ⌜ Prepares p n (now (selectors .entry)) (now (labels .entry)) (now (written .entry)) (now (scratch .entry)) r (now (written .exit)) (now (scratch .exit)) ⌝ }
+{
+    let answer = decide(p, n, selectors, labels, written, scratch);
+    let number = answer.number;
+    if number == 0 {
+        work(p, n, selectors, labels, written, scratch);
+    }
+    answer
+}

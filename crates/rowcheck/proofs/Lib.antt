@@ -1,0 +1,3 @@
+pub mod RowSums
+pub mod Turns
+pub mod Decided

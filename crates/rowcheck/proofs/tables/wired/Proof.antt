@@ -1,0 +1,69 @@
+-- `rowcheck::tables::wired` meets its contract: the tags are written into the first 3n words of the array. Assumes nothing.
+use mathlib.Core.Path.{sym, _∙_}
+use Prim.Native.Nat.{_*_, _≤_}
+use native.Mathlib.Omega.{arith}
+use lib.ListN.{length}
+use lib.Seq.{take-at, length-take-le, length-front}
+use borrow.Author.Needs.{needs}
+use Rattle.field.specs.Primes.{rows-power}
+use Rattle.rowcheck.proofs.tables.wired.Statement.{statement}
+use Rattle.rowcheck.proofs.tables.wired.Tie as tie
+
+-- the arrays have room for n points and 3n tags
+powers-fit : (c : tie.After-domain-points) → c .before .before .before .args .n ≤ length (c .domain-points .result)
+powers-fit c = omega (arith, rows-power _ _ (c .before .before .before .pre .0 .rows) .small, c .domain-points .ensures .0)
+
+tags-fit : (c : tie.After-domain-points) → 3 * c .before .before .before .args .n ≤ length (c .before .blank .result)
+tags-fit c = omega (arith, rows-power _ _ (c .before .before .before .pre .0 .rows) .small, c .before .blank .ensures)
+
+blank-requires : tie.Need-blank-requires
+blank-requires c κs = search needs
+
+domain-points-requires : tie.Need-domain-points-requires
+domain-points-requires c κs = search needs
+
+mul-k : tie.Need-mul-k
+mul-k c = search needs
+
+array-share-prefix-powers : tie.Need-array-share-prefix-powers
+array-share-prefix-powers c = powers-fit c
+
+slice-aggregate-wired-tags : tie.Need-slice-aggregate-wired-tags
+slice-aggregate-wired-tags c = sym (length-take-le _ _ (powers-fit (c .before)))
+
+array-borrow-prefix-tags : tie.Need-array-borrow-prefix-tags
+array-borrow-prefix-tags c = tags-fit (c .before)
+
+slice-aggregate-wired-tags-2 : tie.Need-slice-aggregate-wired-tags-2
+slice-aggregate-wired-tags-2 c = sym (length-take-le _ _ (tags-fit (c .before .before)))
+
+wired-tags-requires : tie.Need-wired-tags-requires
+wired-tags-requires c κs =
+    let d = c .before .before in
+    let s = d .before .before .before in
+    (record { admissible = s .pre .0; points = d .domain-points .ensures .1 }, (s .pre .1, s .pre .2, length-take-le _ _ (tags-fit d)))
+
+returns : tie.Need-returns
+returns c =
+    let written = c .before .wired-tags in
+    let d = c .before .before .before .before in
+    let blank = d .before .blank .result in
+    let a = d .before .before .before .args in
+    let long = length-take-le _ _ (tags-fit d) in (
+      d .before .blank .ensures ∙ sym (length-front blank (written .last .1 .1 .1 .1 .0) (3 * a .n) (written .kept .1 .1 .1 .1 .0)),
+      take-at (written .last .1 .1 .1 .1 .0) _ (3 * a .n) (written .kept .1 .1 .1 .1 .0 ∙ long) ∙ written .ensures,
+    )
+
+pub wired-spec : {M : Type 1} → statement M
+wired-spec =
+    tie.close
+    (tie.spec
+    blank-requires
+    domain-points-requires
+    mul-k
+    array-share-prefix-powers
+    slice-aggregate-wired-tags
+    array-borrow-prefix-tags
+    slice-aggregate-wired-tags-2
+    wired-tags-requires
+    returns)

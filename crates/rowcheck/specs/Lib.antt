@@ -1,0 +1,4 @@
+pub mod Promises
+pub mod Buffers
+pub mod Rows
+pub mod Deciding
