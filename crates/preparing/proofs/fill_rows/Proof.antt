@@ -1,7 +1,6 @@
 -- `preparing::fill_rows` meets its contract: the selectors in front, the tags behind them. Assumes nothing.
-use mathlib.Core.Path.{_≡_, ap, sym, _∙_}
+use mathlib.Core.Path.{sym}
 use native.Mathlib.Omega.{arith}
-use lib.ListN.{length, length-take, length-drop}
 use lib.Seq.{length-take-le}
 use borrow.Author.Needs.{needs}
 use Rattle.preparing.proofs.RowLaws.{rest-length, both-parts, labels-of}

@@ -1,0 +1,21 @@
+-- `pointcheck::publics::public_of` meets its contract: past the end there is nothing. Assumes nothing.
+use mathlib.Core.Path.{sym}
+use lib.ListN.{List·getD-eq-default}
+use borrow.Author.Needs.{needs}
+use Rattle.pointcheck.proofs.publics.public_of.Statement.{statement}
+use Rattle.pointcheck.proofs.publics.public_of.Tie as tie
+
+mul-result : tie.Need-mul-result
+mul-result c = search needs
+
+shared-slice-read-result : tie.Need-shared-slice-read-result
+shared-slice-read-result c = search needs
+
+returns : tie.Need-returns
+returns c = search needs
+
+returns-2 : tie.Need-returns-2
+returns-2 c = sym (List·getD-eq-default (c .before .args .publics .now) 0 (c .if1 .left))
+
+pub public-of-spec : {M : Type 1} → statement M
+public-of-spec = tie.close (tie.spec mul-result shared-slice-read-result returns returns-2)
