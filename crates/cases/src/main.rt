@@ -4,4 +4,5 @@
 fn main() {
     transform_cases::run();
     circuit_cases::run();
+    verifier_cases::run();
 }

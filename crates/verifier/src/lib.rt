@@ -1,0 +1,1 @@
+// Theory only: specs/ holds the theorem. There is no code.

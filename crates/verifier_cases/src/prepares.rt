@@ -1,0 +1,140 @@
+// Preparing: the worked sheet, and why a call is refused. A line has the label, p and n, the answer, the prepared numbers and what became of the scratch.
+use case_tools::buffers;
+use case_tools::print;
+
+fn case(
+    label: &[u8],
+    p: u32,
+    n: u32,
+    selectors: &[u32],
+    labels: &[u32],
+    prepared: &mut [u32],
+    scratch: &mut [u32],
+) {
+    buffers::mark(scratch, 7);
+    let answer = preparing::prepare(p, n, selectors, labels, prepared, scratch);
+    print::text(label);
+    print::number(p);
+    print::number(n);
+    print::answer(answer);
+    print::numbers(prepared);
+    scratch_after(scratch);
+    print::end();
+}
+
+fn scratch_after(scratch: &[u32]) {
+    if buffers::is_zero(scratch) {
+        print::word(b"cleared");
+    }
+    if buffers::is_marked(scratch, 7) {
+        print::word(b"kept");
+    }
+}
+
+// Two rows, with buffers of the right lengths.
+fn two_rows(label: &[u8], p: u32, n: u32, selectors: &[u32], labels: &[u32]) {
+    let mut prepared = [99u32; 16];
+    let mut scratch = [0u32; 32];
+    case(label, p, n, selectors, labels, &mut prepared, &mut scratch);
+}
+
+fn taken() {
+    two_rows(
+        b"worked sheet",
+        17,
+        2,
+        &[0, 1, 0, 1, 16, 16, 1, 0, 0, 0],
+        &[0, 2, 1, 2, 2, 3],
+    );
+    two_rows(
+        b"over 97",
+        97,
+        2,
+        &[0, 1, 0, 1, 96, 96, 1, 0, 0, 0],
+        &[0, 2, 1, 2, 2, 3],
+    );
+    two_rows(
+        b"over the largest",
+        2013265921,
+        2,
+        &[0, 1, 0, 1, 5, 6, 1, 0, 0, 9],
+        &[5, 5, 5, 0, 1, 5],
+    );
+}
+
+fn refused() {
+    two_rows(
+        b"no prime, three rows",
+        18,
+        3,
+        &[0, 1, 0, 1, 16, 16, 1, 0, 0, 0],
+        &[0, 2, 1, 2, 2, 3],
+    );
+    two_rows(
+        b"three rows",
+        17,
+        3,
+        &[0, 1, 0, 1, 16, 16, 1, 0, 0, 0],
+        &[0, 2, 1, 2, 2, 3],
+    );
+    two_rows(
+        b"selectors one too short",
+        17,
+        2,
+        &[0, 1, 0, 1, 16, 17, 1, 0, 0],
+        &[0, 2, 1, 2, 2, 9],
+    );
+    two_rows(
+        b"labels one too long",
+        17,
+        2,
+        &[0, 1, 0, 1, 16, 17, 1, 0, 0, 0],
+        &[0, 2, 1, 2, 2, 9, 0],
+    );
+    two_rows(
+        b"selector 17",
+        17,
+        2,
+        &[0, 1, 0, 1, 16, 16, 1, 0, 0, 17],
+        &[0, 2, 1, 2, 2, 9],
+    );
+    two_rows(
+        b"label 6",
+        17,
+        2,
+        &[0, 1, 0, 1, 16, 16, 1, 0, 0, 0],
+        &[0, 2, 1, 6, 2, 9],
+    );
+}
+
+fn lengths() {
+    let selectors = [0, 1, 0, 1, 16, 17, 1, 0, 0, 0];
+    let labels = [0, 2, 1, 2, 2, 9];
+    let mut prepared = [99u32; 15];
+    let mut scratch = [0u32; 33];
+    case(
+        b"prepared one too short",
+        17,
+        2,
+        &selectors,
+        &labels,
+        &mut prepared,
+        &mut scratch,
+    );
+    let mut right = [99u32; 16];
+    case(
+        b"scratch one too long",
+        17,
+        2,
+        &selectors,
+        &labels,
+        &mut right,
+        &mut scratch,
+    );
+}
+
+pub fn run() {
+    taken();
+    refused();
+    lengths();
+}

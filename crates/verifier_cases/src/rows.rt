@@ -1,0 +1,275 @@
+// The row check on the worked sheet and at its edges. A line has the label, p, n and l, the answer, and the verdict with its row.
+use case_tools::print;
+use rowcheck::Identity;
+use rowcheck::Verdict;
+
+fn identity(id: Identity) {
+    match id {
+        Identity::Gate => print::word(b"gate"),
+        Identity::Start => print::word(b"start"),
+        Identity::Step => print::word(b"step"),
+    }
+}
+
+fn verdict(v: Verdict) {
+    match v {
+        Verdict::None => print::word(b"none"),
+        Verdict::Pass => print::word(b"pass"),
+        Verdict::Fails(id, row) => {
+            identity(id);
+            print::number(row);
+        }
+    }
+}
+
+fn case(
+    label: &[u8],
+    p: u32,
+    n: u32,
+    l: u32,
+    selectors: &[u32],
+    labels: &[u32],
+    witness: &[u32],
+    publics: &[u32],
+    z: &[u32],
+    challenges: &[u32],
+) {
+    let r = rowcheck::check_rows(p, n, l, selectors, labels, witness, publics, z, challenges);
+    print::text(label);
+    print::number(p);
+    print::number(n);
+    print::number(l);
+    let a = r.answer;
+    print::answer(a);
+    let v = r.verdict;
+    verdict(v);
+    print::end();
+}
+
+// The worked circuit, with other contents, public inputs, z and challenges.
+fn worked(label: &[u8], l: u32, witness: &[u32], publics: &[u32], z: &[u32], challenges: &[u32]) {
+    let selectors = [0, 1, 0, 1, 16, 16, 1, 0, 0, 0];
+    let labels = [0, 2, 1, 2, 2, 3];
+    case(
+        label,
+        17,
+        2,
+        l,
+        &selectors,
+        &labels,
+        witness,
+        publics,
+        z,
+        challenges,
+    );
+}
+
+fn verdicts() {
+    worked(
+        b"worked sheet",
+        0,
+        &[2, 6, 3, 6, 6, 12],
+        &[],
+        &[1, 14],
+        &[1, 1],
+    );
+    worked(
+        b"last content 11",
+        0,
+        &[2, 6, 3, 6, 6, 11],
+        &[],
+        &[1, 14],
+        &[1, 1],
+    );
+    worked(
+        b"z starts at 2",
+        0,
+        &[2, 6, 3, 6, 6, 12],
+        &[],
+        &[2, 11],
+        &[1, 1],
+    );
+    worked(
+        b"wrong step to row 1",
+        0,
+        &[2, 6, 3, 6, 6, 12],
+        &[],
+        &[1, 13],
+        &[1, 1],
+    );
+    worked(
+        b"row 1 as 5,7,12",
+        0,
+        &[2, 5, 3, 7, 6, 12],
+        &[],
+        &[1, 14],
+        &[1, 1],
+    );
+    worked(
+        b"row 1 as 5,7,12, beta 0",
+        0,
+        &[2, 5, 3, 7, 6, 12],
+        &[],
+        &[1, 1],
+        &[0, 1],
+    );
+    worked(
+        b"two public inputs of 0",
+        2,
+        &[2, 6, 3, 6, 6, 12],
+        &[0, 0],
+        &[1, 14],
+        &[1, 1],
+    );
+    worked(
+        b"a public input of 1",
+        1,
+        &[2, 6, 3, 6, 6, 12],
+        &[1],
+        &[1, 14],
+        &[1, 1],
+    );
+}
+
+fn refusals() {
+    worked(
+        b"l above n",
+        3,
+        &[2, 6, 3, 6, 6, 12],
+        &[0, 0, 0],
+        &[1, 14],
+        &[1, 1],
+    );
+    worked(
+        b"contents one too short",
+        0,
+        &[2, 6, 3, 6, 6],
+        &[],
+        &[1, 14],
+        &[1, 1],
+    );
+    worked(
+        b"public inputs one too many",
+        0,
+        &[2, 6, 3, 6, 6, 12],
+        &[0],
+        &[1, 14],
+        &[1, 1],
+    );
+    worked(
+        b"z one too long",
+        0,
+        &[2, 6, 3, 6, 6, 12],
+        &[],
+        &[1, 14, 0],
+        &[1, 1],
+    );
+    worked(
+        b"three challenges",
+        0,
+        &[2, 6, 3, 6, 6, 12],
+        &[],
+        &[1, 14],
+        &[1, 1, 1],
+    );
+    worked(
+        b"content 16 taken",
+        0,
+        &[2, 6, 3, 6, 6, 16],
+        &[],
+        &[1, 14],
+        &[1, 1],
+    );
+    worked(
+        b"content 17",
+        0,
+        &[2, 6, 3, 6, 6, 17],
+        &[],
+        &[17, 14],
+        &[1, 1],
+    );
+    worked(
+        b"public input 17",
+        1,
+        &[2, 6, 3, 6, 6, 12],
+        &[17],
+        &[17, 14],
+        &[1, 1],
+    );
+    worked(b"z 17", 0, &[2, 6, 3, 6, 6, 12], &[], &[1, 17], &[17, 1]);
+    worked(
+        b"challenge 17",
+        0,
+        &[2, 6, 3, 6, 6, 12],
+        &[],
+        &[1, 14],
+        &[1, 17],
+    );
+}
+
+// Other primes, rows, selectors and labels.
+fn numbers(label: &[u8], p: u32, n: u32, selectors: &[u32], labels: &[u32]) {
+    case(
+        label,
+        p,
+        n,
+        0,
+        selectors,
+        labels,
+        &[2, 6, 3, 6, 6, 12],
+        &[],
+        &[1, 14],
+        &[1, 1],
+    );
+}
+
+fn circuits() {
+    numbers(
+        b"no prime, three rows",
+        18,
+        3,
+        &[0, 1, 0, 1, 16, 16, 1, 0, 0, 0],
+        &[0, 2, 1, 2, 2, 3],
+    );
+    numbers(
+        b"three rows",
+        17,
+        3,
+        &[0, 1, 0, 1, 16, 16, 1, 0, 0, 0],
+        &[0, 2, 1, 2, 2, 3],
+    );
+    numbers(
+        b"selectors one too long",
+        17,
+        2,
+        &[0, 1, 0, 1, 16, 16, 1, 0, 0, 0, 0],
+        &[0, 2, 1, 2, 2, 3],
+    );
+    numbers(
+        b"labels one too short",
+        17,
+        2,
+        &[0, 1, 0, 1, 16, 16, 1, 0, 0, 0],
+        &[0, 2, 1, 2, 2],
+    );
+    numbers(
+        b"selector 17",
+        17,
+        2,
+        &[17, 1, 0, 1, 16, 16, 1, 0, 0, 0],
+        &[0, 2, 1, 2, 2, 6],
+    );
+    numbers(
+        b"label 6",
+        17,
+        2,
+        &[0, 1, 0, 1, 16, 16, 1, 0, 0, 0],
+        &[0, 2, 1, 2, 2, 6],
+    );
+}
+
+pub fn run() {
+    verdicts();
+    refusals();
+    circuits();
+}
