@@ -6,6 +6,7 @@
 -- tab-const                                 a table of one number
 -- all-tab, nodup-tab                        every element; no element twice
 -- all-getD, all-of                          every element, by index
+-- all-append                                every element of two lists end to end
 -- wrote-none, wrote-more, wrote-all         the loop: before, a turn, after
 -- unread                                    the word that a turn is about to write is still what it was
 --
@@ -80,6 +81,10 @@ all-getD P (x ∷ xs) t (suc i) h = all-getD P xs (t .1) i (omega arith)
 pub all-of : (P : ℕ → Type 0) (l : List ℕ) → ((i : ℕ) → i < length l → P (getD l i 0)) → All P l
 all-of P [] h = tt
 all-of P (a ∷ l) h = (h 0 (omega arith), all-of P l (λ i k. h (suc i) (omega arith)))
+
+pub all-append : (P : ℕ → Type 0) (f g : List ℕ) → All P f → All P g → All P (f ++ g)
+all-append P [] g a b = b
+all-append P (c ∷ f) g a b = (a .0, all-append P f g (a .1) b)
 
 pub wrote-none : (f : ℕ → ℕ) (o : List ℕ) → o ≡ tab f 0 ++ drop 0 o
 unfolding tab

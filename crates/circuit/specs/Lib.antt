@@ -6,3 +6,4 @@ pub mod Ahead
 pub mod Points
 pub mod Positions
 pub mod Permutation
+pub mod Taken

@@ -1,26 +1,29 @@
 -- Laws of the reasons for turning a call down.
 --
 -- none-applies     an answer with number 0 means that no reason of the list applies (no reason has number 0)
+-- taken            where no reason of the list applies, the answer is number 0, detail 0
 -- answerOf-append  of two lists of reasons: the answer of the first, unless none of its reasons applies
 -- elements-of      where no number of a list is p or more, all are elements
+-- elements-none    where all are elements, none is p or more
+-- length-none      a right length is no reason
 -- firstAbove-le    the place of the first number that is p or more is at most the length
 -- firstAbove-append  of two lists end to end: the place in the first, or else the length of the first + the place in the second
 --
 -- Assumes nothing.
 use mathlib.Core.Path.{_≡_, refl, ap, _∙_}
 use mathlib.Core.Logic.{_≢_}
-use mathlib.Core.Bool.{Bool, true, false, cond}
+use mathlib.Core.Bool.{Bool, true, false, not, cond}
 use mathlib.Core.List.{List, [], _∷_, _++_}
 use Prim.Native.Nat.{ℕ, _+_, _-_, _≤_, _<_}
 use native.Mathlib.Decide.{decLt}
 use native.Mathlib.Omega.{arith}
-use lib.Dec.{leb, ltb}
+use lib.Dec.{eqb, leb, ltb}
 use lib.ListN.{length, getD, length-append, List·getD-append}
 use lib.Seq.{getD-append-add}
-use borrow.Author.Tests.{ltb-false, leb-false, lt-ltb, le-ltb, ne-eqb}
+use borrow.Author.Tests.{ltb-false, leb-false, leb-true, lt-ltb, le-ltb, eq-eqb, ne-eqb}
 use Rattle.algebra.specs.Lists.{All}
-use Rattle.algebra.specs.Search.{First, first-is}
-use Rattle.algebra.specs.Tables.{all-of}
+use Rattle.algebra.specs.Search.{First, first-is, first-none}
+use Rattle.algebra.specs.Tables.{all-getD, all-of}
 use Rattle.field.specs.Reasons.{Reason, answerOf, isAccepted, firstAbove}
 
 pub none-applies : (rs : List Reason) → All (λ r. r .number ≢ 0) rs → answerOf rs .number ≡ 0 → All (λ r. r .applies ≡ false) rs
@@ -31,6 +34,13 @@ none-applies (r ∷ rs) n e = go (r .applies) refl e (none-applies rs (n .1))
         → (answerOf rs .number ≡ 0 → All (λ r. r .applies ≡ false) rs) → All (λ r. r .applies ≡ false) (r ∷ rs)
     go true u f later = absurd (n .0 f)
     go false u f later = (u, later f)
+
+pub taken : (rs : List Reason) → All (λ r. r .applies ≡ false) rs → answerOf rs ≡ record { number = 0; detail = 0 }
+taken [] a = refl
+taken (r ∷ rs) a = rw (a .0) (taken rs (a .1))
+
+pub length-none : {long due : ℕ} → long ≡ due → not (eqb long due) ≡ false
+length-none {long} {due} e = rw (eq-eqb long due e)
 
 pub answerOf-append : (rs ss : List Reason) → All (λ r. r .number ≢ 0) rs
     → answerOf (rs ++ ss) ≡ cond (isAccepted (answerOf rs)) (answerOf ss) (answerOf rs)
@@ -48,6 +58,13 @@ unfolding firstAbove
 elements-of p xs e =
     all-of (λ (x : ℕ). x < p) xs
     (λ i h. leb-false p (getD xs i 0) (first-is (λ k. leb p (getD xs k 0)) 0 (length xs) .none i (omega arith) (omega (arith, ltb-false (firstAbove p xs) (length xs) e))))
+
+pub elements-none : (p : ℕ) (xs : List ℕ) → All (λ (x : ℕ). x < p) xs → ltb (firstAbove p xs) (length xs) ≡ false
+unfolding firstAbove
+elements-none p xs a =
+    le-ltb (firstAbove p xs) (length xs)
+    (omega (arith, first-none (λ k. leb p (getD xs k 0)) (length xs)
+    (λ k l e. omega (arith, leb-true p (getD xs k 0) e, all-getD (λ (x : ℕ). x < p) xs a k l))))
 
 pub firstAbove-le : (p : ℕ) (xs : List ℕ) → firstAbove p xs ≤ length xs
 unfolding firstAbove

@@ -17,6 +17,7 @@ use lib.Seq.{getD-append-add, take-at, drop-at, drop-length}
 use borrow.Rule.Slice.PartMut.{putMid}
 use Rattle.algebra.specs.Lists.{tab}
 use Rattle.algebra.specs.Polynomial.{Elements}
+use Rattle.algebra.specs.PolynomialLaws.{append-elements}
 use Rattle.algebra.specs.Tables.{length-tab, getD-tab, all-tab}
 use Rattle.field.specs.Fields.{Admissible, tag}
 use Rattle.field.specs.Primes.{rows-power, field-prime}
@@ -28,7 +29,6 @@ use Rattle.circuit.specs.Circuit.{lentCircuit, permutation, position}
 use Rattle.circuit.specs.Ahead.{Labels}
 use Rattle.circuit.specs.Reasons.{selectorsLength}
 use Rattle.protocol.specs.Protocol.{prepared, wiredTag}
-use Rattle.protocol.specs.Layout.{append-elements}
 use Rattle.preparing.specs.Promises.{rowsOf}
 
 pub labels-of : {p : ℕ} (n : ℕ) (labels : List ℕ) → Elements (3 * n) (3 * n) labels → Admissible p n → Labels labels

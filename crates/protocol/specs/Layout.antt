@@ -14,9 +14,8 @@ use native.Mathlib.Nat.{zero-mul}
 use native.Mathlib.Omega.{arith}
 use lib.ListN.{length, take, drop, length-append}
 use lib.Seq.{take-at, drop-at, drop-drop}
-use Rattle.algebra.specs.Lists.{All}
 use Rattle.algebra.specs.Polynomial.{Elements}
-use Rattle.algebra.specs.PolynomialLaws.{reduced-elements}
+use Rattle.algebra.specs.PolynomialLaws.{append-elements, reduced-elements}
 use Rattle.transform.specs.Transform.{interpolation}
 use Rattle.transform.specs.Interpolation.{interpolation-elements}
 use Rattle.circuit.specs.Circuit.{Circuit}
@@ -49,14 +48,6 @@ laid-part n f (suc c) r h zero l = rw (zero-mul n) (take-at (f 0) (laid (λ s. f
 laid-part n f (suc c) r h (suc s) l =
     ap (take n) (drop-one n (f 0) (laid (λ s. f (suc s)) c r) s (h 0 (omega arith)))
     ∙ laid-part n (λ s. f (suc s)) c r (λ s l. h (suc s) (omega arith)) s (omega arith)
-
-all-append : (A : ℕ → Type 0) (f g : List ℕ) → All A f → All A g → All A (f ++ g)
-all-append A [] g a b = b
-all-append A (c ∷ f) g a b = (a .0, all-append A f g (a .1) b)
-
-pub append-elements : {p a b : ℕ} {f g : List ℕ} → Elements p a f → Elements p b g → Elements p (a + b) (f ++ g)
-append-elements {p} {a} {b} {f} {g} u w =
-    record { long = length-append f g ∙ ap₂ _+_ (u .long) (w .long); below = all-append (λ (c : ℕ). c < p) f g (u .below) (w .below) }
 
 laid-elements : {p n m : ℕ} (f : ℕ → List ℕ) (c : ℕ) {r : List ℕ} → ((s : ℕ) → Elements p n (f s)) → Elements p m r → Elements p (c * n + m) (laid f c r)
 laid-elements {p} {n} {m} f zero {r} h e = subst (λ (k : ℕ). Elements p k r) (omega arith) e

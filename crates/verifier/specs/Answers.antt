@@ -3,28 +3,31 @@
 -- THE STATEMENT
 -- RowsPass              the pair (beta, gamma) is one for which some answer of `check_rows`, lent the wires' witness and the row values of some z, is Pass
 -- PointAccepts          the zeta is one for which some answer of `check_point`, lent the prepared circuit and the transcript, is Accept
--- AnswersCounted p n    how few pairs and zetas get these answers for a cheat, and what the calls answer for an honest witness
+-- AnswersCounted        how few pairs, alphas and zetas there are for a cheat, and that an honest witness gets Pass and Accept
 -- THE THEOREM
--- answers-counted       AnswersCounted holds for every admissible p and n; its parts are few-pairs-pass, few-zetas-accepted, honest-rows-pass
---                       and honest-accepted
+-- answers-counted       AnswersCounted holds for every admissible p and n, and every circuit and public inputs that are lent rightly
 --
 -- A call's answer r is any that keeps the call's promise: ChecksRows or PointChecks. `AtMost K P` says that at most K things satisfy P.
 -- Assumes nothing.
-use mathlib.Core.Path.{_≡_, refl, sym, _∙_}
+use mathlib.Core.Path.{_≡_, refl, sym, ap, _∙_}
 use mathlib.Core.Bool.{Bool, true, false, cond}
 use mathlib.Core.List.{List, [], _∷_}
-use Prim.Native.Nat.{ℕ, suc, _*_, _-_, _%_, _<_}
+use Prim.Native.Nat.{ℕ, zero, suc, _*_, _-_, _%_, _<_}
 use native.Mathlib.Nat.{mod-lt}
 use native.Mathlib.Omega.{arith}
+use lib.ListN.{length}
 use Rattle.algebra.specs.Lists.{AtMost, tab}
 use Rattle.algebra.specs.Polynomial.{Elements}
-use Rattle.algebra.specs.Tables.{getD-tab}
+use Rattle.algebra.specs.Tables.{length-tab, getD-tab, all-tab}
 use Rattle.algebra.specs.Counting.{at-most-of}
 use Rattle.field.specs.Fields.{Admissible}
-use Rattle.field.specs.Reasons.{isAccepted}
-use Rattle.transform.specs.Transform.{evaluation}
+use Rattle.field.specs.Primes.{field-prime}
+use Rattle.field.specs.Reasons.{answerOf, isAccepted}
+use Rattle.field.specs.declared.Answer.{Answer}
+use Rattle.transform.specs.Transform.{evaluation, scratchLength}
 use Rattle.circuit.specs.Circuit.{Circuit, position, gate, Satisfies, lentCircuit, lentPublic, lentWitness}
-use Rattle.circuit.specs.Reasons.{quotientLength}
+use Rattle.circuit.specs.Reasons.{witnessLength, quotientLength, rowsReasons, pointReasons}
+use Rattle.circuit.specs.Taken.{RightCircuit, RightPublics, rows-taken, point-taken}
 use Rattle.protocol.specs.Protocol.{RowVerdict, pass, fails, rowVerdict, rowN, rowD, rowZ, PointVerdict, accept, reject, prepared, transcript, proved, zeroFactor}
 use Rattle.protocol.specs.Rows.{RowHolds, passed-row, rows-pass}
 use Rattle.protocol.specs.Demand3.{valueAt, witnessOf, PassingPair, HoldingAlpha, AcceptedZeta, demand-3}
@@ -58,33 +61,39 @@ module _ (p n l : ℕ) (selectors labels publics : List ℕ) (wire : ℕ → Lis
     pub checks : PointChecks p n l publics (prepared p n (lentCircuit n selectors labels)) (transcript wire z t) (pair .0 ∷ pair .1 ∷ alpha ∷ zeta ∷ []) scratch r scratch'
     pub accepts : r .verdict ≡ judged.Accept
 
-pub record AnswersCounted (p n : ℕ) : Type 0 where
-  -- the contents of the three wires break a gate or give one variable two values: at most (3n - 1) × p pairs let some z get the verdict Pass
-  pub few-pairs-pass : (l : ℕ) (selectors labels publics : List ℕ) (wire : ℕ → List ℕ) → ((c : ℕ) → c < 3 → Elements p n (wire c))
+-- the lent circuit and public inputs
+pub record AnswersCounted (p n l : ℕ) (selectors labels publics : List ℕ) : Type 0 where
+  -- the witness of the three wires breaks a gate or gives one variable two values: at most (3n - 1) × p pairs let some z get the answer Pass
+  pub few-pairs : (wire : ℕ → List ℕ) → ((c : ℕ) → c < 3 → Elements p n (wire c))
       → (Satisfies p n (lentCircuit n selectors labels) (lentPublic publics) (witnessOf p n wire) → ⊥)
       → AtMost ((3 * n - 1) * p) (RowsPass p n l selectors labels publics wire)
-  -- an alpha for which no quotient holds, and any t: at most 4n - 4 zetas get the verdict Accept
-  pub few-zetas-accepted : (l : ℕ) (selectors labels publics : List ℕ) (wire : ℕ → List ℕ) → ((c : ℕ) → c < 3 → Elements p n (wire c))
+  -- any of the other pairs, and any z: at most 2 alphas let some quotient hold
+  pub few-alphas : (wire : ℕ → List ℕ) → ((c : ℕ) → c < 3 → Elements p n (wire c))
+      → (pair : ℕ × ℕ) → pair .0 < p → pair .1 < p → (RowsPass p n l selectors labels publics wire pair → ⊥)
+      → (z : List ℕ) → Elements p n z
+      → AtMost 2 (HoldingAlpha p n (lentCircuit n selectors labels) (lentPublic publics) wire z pair)
+  -- any of the other alphas, and any t: at most 4n - 4 zetas get the answer Accept
+  pub few-zetas : (wire : ℕ → List ℕ) → ((c : ℕ) → c < 3 → Elements p n (wire c))
       → (pair : ℕ × ℕ) (alpha : ℕ) → alpha < p → (z : List ℕ) → Elements p n z
       → (HoldingAlpha p n (lentCircuit n selectors labels) (lentPublic publics) wire z pair alpha → ⊥)
       → (t : List ℕ) → Elements p (quotientLength n) t
       → AtMost (4 * n - 4) (PointAccepts p n l selectors labels publics wire z t pair alpha)
-  -- contents that satisfy the circuit, no zero factor of any D(i), and z on the rows: a row check that is not turned down answers Pass
-  pub honest-rows-pass : (l : ℕ) (selectors labels publics witness : List ℕ)
+  -- a witness that satisfies the circuit, no zero factor of any D(i), and z on the rows: the row check answers Pass
+  pub honest-rows : (witness : List ℕ) → Elements p (witnessLength n) witness
       → Satisfies p n (lentCircuit n selectors labels) (lentPublic publics) (lentWitness witness)
-      → (beta gamma : ℕ) → zeroFactor p n (lentCircuit n selectors labels) (lentWitness witness) beta gamma ≡ n
+      → (beta gamma : ℕ) → beta < p → gamma < p → zeroFactor p n (lentCircuit n selectors labels) (lentWitness witness) beta gamma ≡ n
       → (r : RowAnswer)
       → ChecksRows p n l selectors labels witness publics (tab (rowZ p n (lentCircuit n selectors labels) (lentWitness witness) beta gamma) n) (beta ∷ gamma ∷ []) r
-      → isAccepted (r .answer) ≡ true → r .verdict ≡ Pass
-  -- the same contents, and the transcript that the worker lays: a point check that is not turned down answers Accept, for every alpha and zeta
-  pub honest-accepted : (l : ℕ) (selectors labels publics witness : List ℕ)
+      → r .verdict ≡ Pass
+  -- the same witness, and the transcript that the prover lays: the point check answers Accept, for every alpha and zeta
+  pub honest-point : (witness : List ℕ)
       → Satisfies p n (lentCircuit n selectors labels) (lentPublic publics) (lentWitness witness)
-      → (beta gamma : ℕ) → zeroFactor p n (lentCircuit n selectors labels) (lentWitness witness) beta gamma ≡ n
-      → (alpha zeta : ℕ) (scratch scratch' : List ℕ) (r : PointAnswer)
+      → (beta gamma : ℕ) → beta < p → gamma < p → zeroFactor p n (lentCircuit n selectors labels) (lentWitness witness) beta gamma ≡ n
+      → (alpha zeta : ℕ) → alpha < p → zeta < p → (scratch scratch' : List ℕ) → length scratch ≡ scratchLength n → (r : PointAnswer)
       → PointChecks p n l publics (prepared p n (lentCircuit n selectors labels))
       (proved p n (lentCircuit n selectors labels) (lentPublic publics) (lentWitness witness) beta gamma alpha)
       (beta ∷ gamma ∷ alpha ∷ zeta ∷ []) scratch r scratch'
-      → isAccepted (r .answer) ≡ true → r .verdict ≡ judged.Accept
+      → r .verdict ≡ judged.Accept
 
 -- THE SAME ROWS, THE SAME VERDICT
 
@@ -114,6 +123,7 @@ module _ (p n : ℕ) (C : Circuit) (x v v' z z' : ℕ → ℕ) (beta gamma : ℕ
 
 -- THE ANSWERS
 
+-- an answer that is a verdict of pass or of accept, and back
 pass-of : (b : Bool) (v : RowVerdict) → cond b (verdictOf v) None ≡ Pass → v ≡ pass
 pass-of true pass e = refl
 pass-of true (fails id i) e = cc
@@ -124,15 +134,31 @@ accept-of true accept e = refl
 accept-of true reject e = cc
 accept-of false v e = cc
 
-answer-pass : (b : Bool) (v : RowVerdict) → b ≡ true → v ≡ pass → cond b (verdictOf v) None ≡ Pass
-answer-pass b v e f = rw (e, f)
+abbrev accepted : Answer
+accepted = record { number = 0; detail = 0 }
 
-answer-accept : (b : Bool) (v : PointVerdict) → b ≡ true → v ≡ accept → cond b (judgedAs v) judged.None ≡ judged.Accept
-answer-accept b v e f = rw (e, f)
+answer-pass : (a : Answer) (v : RowVerdict) → a ≡ accepted → v ≡ pass → cond (isAccepted a) (verdictOf v) None ≡ Pass
+answer-pass a v e f = rw (e, f)
+
+answer-accept : (a : Answer) (v : PointVerdict) → a ≡ accepted → v ≡ accept → cond (isAccepted a) (judgedAs v) judged.None ≡ judged.Accept
+answer-accept a v e f = rw (e, f)
 
 lent-values : (p n : ℕ) (z : List ℕ) (i : ℕ) → i < n → lentZ (evaluation p n z) i ≡ valueAt p n z i
 unfolding evaluation
 lent-values p n z i h = getD-tab (valueAt p n z) n i h
+
+-- tables of numbers modulo p, and of challenges
+table-elements : {p : ℕ} (f : ℕ → ℕ) (m : ℕ) → ((k : ℕ) → k < m → f k < p) → Elements p m (tab f m)
+table-elements {p} f m h = record { long = length-tab f m; below = all-tab (λ (x : ℕ). x < p) f m h }
+
+evaluation-elements : (p n : ℕ) → 0 < p → (z : List ℕ) → Elements p n (evaluation p n z)
+unfolding evaluation
+evaluation-elements p n h z = table-elements (valueAt p n z) n (λ k l. mod-lt _ h)
+
+rowZ-lt : (p n : ℕ) → 1 < p → (C : Circuit) (v : ℕ → ℕ) (beta gamma i : ℕ) → rowZ p n C v beta gamma i < p
+unfolding rowZ
+rowZ-lt p n h C v beta gamma zero = h
+rowZ-lt p n h C v beta gamma (suc i) = mod-lt _ (omega arith)
 
 module _ (p n l : ℕ) (selectors labels publics : List ℕ) where
   abbrev C : Circuit
@@ -142,6 +168,13 @@ module _ (p n l : ℕ) (selectors labels publics : List ℕ) where
   x = lentPublic publics
 
   module _ (wire : ℕ → List ℕ) where
+    abbrev lent : List ℕ
+    lent = tab (witnessOf p n wire) (3 * n)
+
+    -- what the row check reads is the wires' witness
+    lent-witness : (k : ℕ) → k < 3 * n → lentWitness (tab (witnessOf p n wire) (3 * n)) k ≡ witnessOf p n wire k
+    lent-witness k u = getD-tab (witnessOf p n wire) (3 * n) k u
+
     passing : (pair : ℕ × ℕ) → RowsPass p n l selectors labels publics wire pair → PassingPair p n (lentCircuit n selectors labels) (lentPublic publics) wire pair
     passing pair h =
         record {
@@ -150,9 +183,8 @@ module _ (p n l : ℕ) (selectors labels publics : List ℕ) where
           z = h .z;
           z-elements = h .z-elements;
           z-passes =
-              same-pass p n C x (lentWitness (tab (witnessOf p n wire) (3 * n))) (witnessOf p n wire) (lentZ (evaluation p n (h .z))) (valueAt p n (h .z))
-              (pair .0) (pair .1)
-              (λ k u. getD-tab (witnessOf p n wire) (3 * n) k u)
+              same-pass p n C x (lentWitness lent) (witnessOf p n wire) (lentZ (evaluation p n (h .z))) (valueAt p n (h .z)) (pair .0) (pair .1)
+              lent-witness
               (lent-values p n (h .z))
               (pass-of (isAccepted (h .r .answer)) _ (sym (h .checks .verdict) ∙ h .passes));
         }
@@ -165,54 +197,92 @@ module _ (p n l : ℕ) (selectors labels publics : List ℕ) where
           accepted = accept-of (isAccepted (h .r .answer)) _ (sym (h .checks .verdict) ∙ h .accepts);
         }
 
+    -- a pair for which some z passes gets the answer Pass, the buffers being lent rightly
+    answered : Admissible p n → RightCircuit p n selectors labels → RightPublics p n l publics → (pair : ℕ × ℕ)
+        → PassingPair p n (lentCircuit n selectors labels) (lentPublic publics) wire pair → RowsPass p n l selectors labels publics wire pair
+    answered A right rightX pair h =
+        let positive : 0 < p = omega (arith, field-prime p (A .one-of-three) .two) in
+        let values : List ℕ = evaluation p n (h .z) in
+        let challenges : List ℕ = pair .0 ∷ pair .1 ∷ [] in
+        let drawn : Elements p 2 challenges = record { long = refl; below = (h .beta-element, (h .gamma-element, tt)) } in
+        let answer : Answer = answerOf (rowsReasons p n l selectors labels lent publics values challenges) in
+        let verdict : RowVerdict = rowVerdict p n C x (lentWitness lent) (lentZ values) (pair .0) (pair .1) in
+        record {
+          beta-element = h .beta-element;
+          gamma-element = h .gamma-element;
+          z = h .z;
+          z-elements = h .z-elements;
+          r = record { answer = answer; verdict = cond (isAccepted answer) (verdictOf verdict) None };
+          checks = record { answer = refl; verdict = refl };
+          passes =
+              answer-pass answer verdict
+              (rows-taken A right rightX
+              (table-elements (witnessOf p n wire) (3 * n) (λ k u. mod-lt _ positive))
+              (evaluation-elements p n positive (h .z))
+              drawn)
+              (same-pass p n C x (witnessOf p n wire) (lentWitness lent) (valueAt p n (h .z)) (lentZ values) (pair .0) (pair .1)
+              (λ k u. sym (lent-witness k u))
+              (λ i u. sym (lent-values p n (h .z) i u))
+              (h .z-passes));
+        }
+
 -- THE THEOREM
 
-module _ (p n : ℕ) (A : Admissible p n) (l : ℕ) (selectors labels publics : List ℕ) where
-  pub few-pairs-pass : (wire : ℕ → List ℕ) → ((c : ℕ) → c < 3 → Elements p n (wire c))
-      → (Satisfies p n (lentCircuit n selectors labels) (lentPublic publics) (witnessOf p n wire) → ⊥)
-      → AtMost ((3 * n - 1) * p) (RowsPass p n l selectors labels publics wire)
-  few-pairs-pass wire elements broken =
-      at-most-of (demand-3 p n A .soundness _ _ wire elements .pairs broken) (passing p n l selectors labels publics wire) (omega arith)
+module _ (p n : ℕ) (A : Admissible p n) (l : ℕ) (selectors labels publics : List ℕ) (right : RightCircuit p n selectors labels)
+    (rightX : RightPublics p n l publics) where
+  abbrev two : 1 < p
+  two = field-prime p (A .one-of-three) .two
 
-  pub few-zetas-accepted : (wire : ℕ → List ℕ) → ((c : ℕ) → c < 3 → Elements p n (wire c))
-      → (pair : ℕ × ℕ) (alpha : ℕ) → alpha < p → (z : List ℕ) → Elements p n z
-      → (HoldingAlpha p n (lentCircuit n selectors labels) (lentPublic publics) wire z pair alpha → ⊥)
-      → (t : List ℕ) → Elements p (quotientLength n) t
-      → AtMost (4 * n - 4) (PointAccepts p n l selectors labels publics wire z t pair alpha)
-  few-zetas-accepted wire elements pair alpha ha z ez none t et =
-      at-most-of (demand-3 p n A .soundness _ _ wire elements .zetas pair alpha ha z ez none t et)
-      (accepted-zeta p n l selectors labels publics wire z t pair alpha)
-      (omega arith)
-
-  pub honest-rows-pass : (witness : List ℕ) → Satisfies p n (lentCircuit n selectors labels) (lentPublic publics) (lentWitness witness)
-      → (beta gamma : ℕ) → zeroFactor p n (lentCircuit n selectors labels) (lentWitness witness) beta gamma ≡ n
+  honest-rows : (witness : List ℕ) → Elements p (witnessLength n) witness
+      → Satisfies p n (lentCircuit n selectors labels) (lentPublic publics) (lentWitness witness)
+      → (beta gamma : ℕ) → beta < p → gamma < p → zeroFactor p n (lentCircuit n selectors labels) (lentWitness witness) beta gamma ≡ n
       → (r : RowAnswer)
       → ChecksRows p n l selectors labels witness publics (tab (rowZ p n (lentCircuit n selectors labels) (lentWitness witness) beta gamma) n) (beta ∷ gamma ∷ []) r
-      → isAccepted (r .answer) ≡ true → r .verdict ≡ Pass
-  honest-rows-pass witness sat beta gamma nonzero r checks taken =
+      → r .verdict ≡ Pass
+  honest-rows witness elements sat beta gamma hb hg nonzero r checks =
       let Z : ℕ → ℕ = rowZ p n (lentCircuit n selectors labels) (lentWitness witness) beta gamma in
+      let drawn : Elements p 2 (beta ∷ gamma ∷ []) = record { long = refl; below = (hb, (hg, tt)) } in
       let verdict =
       same-pass p n (lentCircuit n selectors labels) (lentPublic publics) (lentWitness witness) (lentWitness witness) Z (lentZ (tab Z n)) beta gamma
       (λ k u. refl)
       (λ i u. sym (getD-tab Z n i u))
       (demand-3 p n A .completeness _ _ _ sat beta gamma nonzero .z-passes) in
-      checks .verdict ∙ answer-pass _ _ taken verdict
+      checks .verdict
+      ∙ answer-pass _ _
+      (checks .answer
+      ∙ rows-taken A right rightX elements (table-elements Z n (λ i u. rowZ-lt p n two _ _ beta gamma i)) drawn)
+      verdict
 
-  pub honest-accepted : (witness : List ℕ) → Satisfies p n (lentCircuit n selectors labels) (lentPublic publics) (lentWitness witness)
-      → (beta gamma : ℕ) → zeroFactor p n (lentCircuit n selectors labels) (lentWitness witness) beta gamma ≡ n
-      → (alpha zeta : ℕ) (scratch scratch' : List ℕ) (r : PointAnswer)
+  honest-point : (witness : List ℕ)
+      → Satisfies p n (lentCircuit n selectors labels) (lentPublic publics) (lentWitness witness)
+      → (beta gamma : ℕ) → beta < p → gamma < p → zeroFactor p n (lentCircuit n selectors labels) (lentWitness witness) beta gamma ≡ n
+      → (alpha zeta : ℕ) → alpha < p → zeta < p → (scratch scratch' : List ℕ) → length scratch ≡ scratchLength n → (r : PointAnswer)
       → PointChecks p n l publics (prepared p n (lentCircuit n selectors labels))
       (proved p n (lentCircuit n selectors labels) (lentPublic publics) (lentWitness witness) beta gamma alpha)
       (beta ∷ gamma ∷ alpha ∷ zeta ∷ []) scratch r scratch'
-      → isAccepted (r .answer) ≡ true → r .verdict ≡ judged.Accept
-  honest-accepted witness sat beta gamma nonzero alpha zeta scratch scratch' r checks taken =
-      checks .verdict ∙ answer-accept _ _ taken (demand-3 p n A .completeness _ _ _ sat beta gamma nonzero .accepted alpha zeta)
+      → r .verdict ≡ judged.Accept
+  honest-point witness sat beta gamma hb hg nonzero alpha zeta ha hz scratch scratch' long r checks =
+      let drawn : Elements p 4 (beta ∷ gamma ∷ alpha ∷ zeta ∷ []) = record { long = refl; below = (hb, (hg, (ha, (hz, tt)))) } in
+      checks .verdict
+      ∙ answer-accept _ _
+      (checks .answer
+      ∙ point-taken A scratch rightX (demand-3 p n A .prepared-long (lentCircuit n selectors labels))
+      (demand-3 p n A .proved-long (lentCircuit n selectors labels) (lentPublic publics) (lentWitness witness) beta gamma alpha)
+      drawn
+      long)
+      (demand-3 p n A .completeness _ _ _ sat beta gamma nonzero .accepted alpha zeta)
 
-pub answers-counted : (p n : ℕ) → Admissible p n → AnswersCounted p n
-answers-counted p n A =
-    record {
-      few-pairs-pass = few-pairs-pass p n A;
-      few-zetas-accepted = few-zetas-accepted p n A;
-      honest-rows-pass = honest-rows-pass p n A;
-      honest-accepted = honest-accepted p n A;
-    }
+  pub answers-counted : AnswersCounted p n l selectors labels publics
+  answers-counted =
+      record {
+        few-pairs = λ wire elements broken.
+            at-most-of (demand-3 p n A .soundness _ _ wire elements .pairs broken) (passing p n l selectors labels publics wire) (omega arith);
+        few-alphas = λ wire elements pair hb hg none z ez.
+            demand-3 p n A .soundness _ _ wire elements .alphas pair hb hg (λ h. none (answered p n l selectors labels publics wire A right rightX pair h)) z ez;
+        few-zetas = λ wire elements pair alpha ha z ez none t et.
+            at-most-of (demand-3 p n A .soundness _ _ wire elements .zetas pair alpha ha z ez none t et)
+            (accepted-zeta p n l selectors labels publics wire z t pair alpha)
+            (omega arith);
+        honest-rows = honest-rows;
+        honest-point = honest-point;
+      }
