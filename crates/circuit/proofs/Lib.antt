@@ -3,3 +3,4 @@ pub mod Passes
 pub mod Deciding
 pub mod PartLaws
 pub mod TagLaws
+pub mod PublicLaws

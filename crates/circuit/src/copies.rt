@@ -6,13 +6,6 @@ ghost use Rattle.algebra.specs.Lists.{tab};
 ghost use Rattle.circuit.specs.Circuit.{permutation};
 ghost use Rattle.circuit.specs.Ahead.{Ahead, Labels};
 
-// An array for the slots; what it holds does not matter.
-fn blank() -> [u32; 3072]
-    ensures { λ r. ⌜ 3072 ≡ length r ⌝ }
-{
-    [0; 3072]
-}
-
 // What a slot held, with another number put in its place.
 fn exchange(slots: &mut [u32], at: usize, number: u32) -> u32
     requires { ⌜ at < length (now slots) ⌝ }
@@ -56,7 +49,7 @@ pub fn fill_permutation(labels: &[u32], out: &mut [u32])
     requires { ⌜ Labels (now labels) × (length (now out) ≡ length (now labels)) ⌝ }
     ensures { λ _. ⌜ now (out .exit) ≡ tab (permutation (length (now (labels .entry))) (λ k. getD (now (labels .entry)) k 0)) (length (now (labels .entry))) ⌝ }
 {
-    let mut slots = blank();
+    let mut slots = field::blank_3072();
     lowest(labels, &mut slots);
     follow(labels, &mut slots, out);
 }

@@ -1,6 +1,6 @@
 // The circuit: its copy permutation, and the polynomials in lent buffers by number.
 //
-// Public calls: `permutation` and `polynomial`. `fill_permutation` is for the layers above, which have checked their numbers.
+// Public calls: `permutation` and `polynomial`. The other functions are for the layers above, which have checked their numbers.
 ghost use mathlib.Core.Path.{_≡_};
 ghost use Rattle.field.specs.Reasons.{answerOf};
 ghost use Rattle.circuit.specs.Reasons.{permutationReasons};
@@ -9,9 +9,12 @@ use field::Answer;
 
 mod copies;
 mod parts;
+mod publics;
 mod tags;
 
 pub use copies::fill_permutation;
+pub use publics::public_of;
+pub use publics::public_polynomial;
 pub use tags::own_tags;
 pub use tags::wired_tags;
 

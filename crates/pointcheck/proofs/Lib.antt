@@ -1,5 +1,4 @@
 -- Laws that the functions' proofs cite.
 pub mod Arithmetic
 pub mod Deciding
-pub mod PublicLaws
 pub mod Judging

@@ -2,51 +2,10 @@
 ghost use mathlib.Core.Path.{_≡_};
 ghost use Prim.Native.Nat.{_%_, _≤_};
 ghost use lib.ListN.{length};
-ghost use Rattle.algebra.specs.Lists.{tab};
 ghost use Rattle.algebra.specs.Polynomial.{eval};
 ghost use Rattle.transform.specs.Transform.{interpolation};
 ghost use Rattle.circuit.specs.Circuit.{lentPublic};
-ghost use Rattle.pointcheck.specs.Buffers.{PublicRows};
-
-// The public input of a row; 0 past their end.
-fn public_of(publics: &[u32], i: usize) -> u32
-    ensures { λ r. ⌜ r ≡ lentPublic (now (publics .entry)) i ⌝ }
-{
-    if i < publics.len() {
-        return publics[i];
-    }
-    0
-}
-
-// The public inputs of as many rows as `out` has words.
-fn public_rows(publics: &[u32], out: &mut [u32])
-    ensures { λ _. ⌜ now (out .exit) ≡ tab (lentPublic (now (publics .entry))) (length (now (out .entry))) ⌝ }
-{
-    let mut i = 0;
-    while i < out.len() {
-        out[i] = public_of(publics, i);
-        i += 1;
-    }
-}
-
-// Their polynomial.
-fn public_polynomial(p: u32, n: u32, publics: &[u32], xs: &mut [u32], spare: &mut [u32])
-    requires { ⌜ PublicRows p n (now publics) ⌝ }
-    requires { ⌜ (length (now xs) ≡ n) × (length (now spare) ≡ n) ⌝ }
-    ensures { λ _. ⌜ now (xs .exit) ≡ interpolation p n (lentPublic (now (publics .entry))) ⌝ }
-{
-    let m = n as usize;
-    let powers = field::domain_points(p, n);
-    public_rows(publics, xs);
-    transform::interpolate_in_place(p, n, &powers[..m], xs, spare);
-}
-
-// An array for the polynomial; what it holds does not matter.
-fn blank() -> [u32; 1024]
-    ensures { λ r. ⌜ 1024 ≡ length r ⌝ }
-{
-    [0; 1024]
-}
+ghost use Rattle.circuit.specs.Points.{PublicRows};
 
 // Its value at x. The scratch is written.
 pub fn public_at(p: u32, n: u32, publics: &[u32], x: u32, scratch: &mut [u32]) -> u32
@@ -55,7 +14,7 @@ pub fn public_at(p: u32, n: u32, publics: &[u32], x: u32, scratch: &mut [u32]) -
     ensures { λ r. ⌜ r ≡ eval (interpolation p n (lentPublic (now (publics .entry)))) x % p ⌝ }
 {
     let m = n as usize;
-    let mut xs = blank();
-    public_polynomial(p, n, publics, &mut xs[..m], &mut scratch[..m]);
+    let mut xs = field::blank_1024();
+    circuit::public_polynomial(p, n, publics, &mut xs[..m], &mut scratch[..m]);
     transform::slices::horner(p, &xs[..m], x)
 }

@@ -1,4 +1,6 @@
 // Preparing a circuit: the eight polynomials of its selectors and of the tags of where the permutation leads.
+//
+// The public call is `prepare`. `work` is for the prover too, which has checked its numbers.
 ghost use mathlib.Core.Path.{_≡_};
 ghost use Prim.Native.Nat.{_*_};
 ghost use lib.ListN.{length, replicate};
@@ -65,7 +67,7 @@ fn fill_rows(p: u32, n: u32, powers: &[u32], selectors: &[u32], labels: &[u32], 
 }
 
 // The work on checked numbers: the row values, each run of n of them interpolated in place, and the scratch cleared.
-fn work(p: u32, n: u32, selectors: &[u32], labels: &[u32], out: &mut [u32], scratch: &mut [u32])
+pub fn work(p: u32, n: u32, selectors: &[u32], labels: &[u32], out: &mut [u32], scratch: &mut [u32])
     requires { ⌜ Checked p n (now selectors) (now labels) (now out) (now scratch) ⌝ }
     ensures { λ _. ⌜ now (out .exit) ≡ prepared p n (lentCircuit n (now (selectors .entry)) (now (labels .entry))) ⌝ }
     ensures { λ _. ⌜ now (scratch .exit) ≡ replicate (scratchLength n) 0 ⌝ }

@@ -7,19 +7,12 @@ ghost use Rattle.field.specs.Fields.{Admissible, tag};
 ghost use Rattle.circuit.specs.Circuit.{permutation};
 ghost use Rattle.circuit.specs.Ahead.{Labels};
 
-// An array for the tags; what it holds does not matter.
-fn blank() -> [u32; 3072]
-    ensures { λ r. ⌜ 3072 ≡ length r ⌝ }
-{
-    [0; 3072]
-}
-
 // The tags of the positions.
 pub fn own(p: u32, n: u32) -> [u32; 3072]
     requires { ⌜ Admissible p n ⌝ }
     ensures { λ r. ⌜ (3072 ≡ length r) × (take (3 * n) r ≡ tab (tag p n) (3 * n)) ⌝ }
 {
-    let mut tags = blank();
+    let mut tags = field::blank_3072();
     let powers = field::domain_points(p, n);
     let m = n as usize;
     let k = 3 * m;
@@ -32,7 +25,7 @@ pub fn wired(p: u32, n: u32, labels: &[u32]) -> [u32; 3072]
     requires { ⌜ Admissible p n × Labels (now labels) × (length (now labels) ≡ 3 * n) ⌝ }
     ensures { λ r. ⌜ (3072 ≡ length r) × (take (3 * n) r ≡ tab (λ k. tag p n (permutation (3 * n) (λ j. getD (now (labels .entry)) j 0) k)) (3 * n)) ⌝ }
 {
-    let mut tags = blank();
+    let mut tags = field::blank_3072();
     let powers = field::domain_points(p, n);
     let m = n as usize;
     let k = 3 * m;

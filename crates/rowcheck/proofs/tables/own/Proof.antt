@@ -15,14 +15,14 @@ use Rattle.rowcheck.proofs.tables.own.Tie as tie
 powers-fit : (c : tie.After-domain-points) → c .before .before .args .n ≤ length (c .domain-points .result)
 powers-fit c = omega (arith, rows-power _ _ (c .before .before .pre .rows) .small, c .domain-points .ensures .0)
 
-tags-fit : (c : tie.After-domain-points) → 3 * c .before .before .args .n ≤ length (c .before .blank .result)
-tags-fit c = omega (arith, rows-power _ _ (c .before .before .pre .rows) .small, c .before .blank .ensures)
+tags-fit : (c : tie.After-domain-points) → 3 * c .before .before .args .n ≤ length (c .before .blank-3072 .result)
+tags-fit c = omega (arith, rows-power _ _ (c .before .before .pre .rows) .small, c .before .blank-3072 .ensures)
 
-tags-long : (c : tie.After-domain-points) → length (take (3 * c .before .before .args .n) (c .before .blank .result)) ≡ 3 * c .before .before .args .n
+tags-long : (c : tie.After-domain-points) → length (take (3 * c .before .before .args .n) (c .before .blank-3072 .result)) ≡ 3 * c .before .before .args .n
 tags-long c = length-take-le _ _ (tags-fit c)
 
-blank-requires : tie.Need-blank-requires
-blank-requires c κs = search needs
+blank-3072-requires : tie.Need-blank-3072-requires
+blank-3072-requires c κs = search needs
 
 domain-points-requires : tie.Need-domain-points-requires
 domain-points-requires c κs = search needs
@@ -53,10 +53,10 @@ returns : tie.Need-returns
 returns c =
     let written = c .before .own-tags in
     let d = c .before .before .before .before in
-    let blank = d .before .blank .result in
+    let blank = d .before .blank-3072 .result in
     let a = d .before .before .args in
     let long = tags-long d in (
-      d .before .blank .ensures ∙ sym (length-front blank (written .last .1 .1 .1 .0) (3 * a .n) (written .kept .1 .1 .1 .0)),
+      d .before .blank-3072 .ensures ∙ sym (length-front blank (written .last .1 .1 .1 .0) (3 * a .n) (written .kept .1 .1 .1 .0)),
       take-at (written .last .1 .1 .1 .0) _ (3 * a .n) (written .kept .1 .1 .1 .0 ∙ long) ∙ written .ensures ∙ ap (tab (tag (a .p) (a .n))) long,
     )
 
@@ -64,7 +64,7 @@ pub own-spec : {M : Type 1} → statement M
 own-spec =
     tie.close
     (tie.spec
-    blank-requires
+    blank-3072-requires
     domain-points-requires
     mul-k
     array-share-prefix-powers

@@ -1,15 +1,14 @@
--- `pointcheck::publics::public_polynomial` meets its contract: the row values are interpolated in place. Assumes nothing.
+-- `circuit::publics::public_polynomial` meets its contract: the row values are interpolated in place. Assumes nothing.
 use mathlib.Core.Path.{sym, _∙_}
 use Prim.Native.Nat.{_≤_}
 use native.Mathlib.Omega.{arith}
 use lib.ListN.{length}
 use lib.Seq.{length-take-le}
-use Rattle.field.specs.Primes.{rows-power}
-use Rattle.pointcheck.proofs.Arithmetic.{positive}
-use Rattle.pointcheck.proofs.PublicLaws.{row-elements, rows-interpolation}
+use Rattle.field.specs.Primes.{rows-power, field-prime}
+use Rattle.circuit.proofs.PublicLaws.{row-elements, rows-interpolation}
 use borrow.Author.Needs.{needs}
-use Rattle.pointcheck.proofs.publics.public_polynomial.Statement.{statement}
-use Rattle.pointcheck.proofs.publics.public_polynomial.Tie as tie
+use Rattle.circuit.proofs.publics.public_polynomial.Statement.{statement}
+use Rattle.circuit.proofs.publics.public_polynomial.Tie as tie
 
 -- the array of powers has room for n words
 powers-fit : (c : tie.After-domain-points) → c .before .before .before .before .args .n ≤ length (c .domain-points .result)
@@ -34,7 +33,7 @@ interpolate-in-place-requires c κs =
     record {
       admissible = s .pre .0 .admissible;
       points = c .before .before .before .before .before .before .before .domain-points .ensures .1;
-      elements = row-elements _ _ (s .args .publics .now) _ _ (c .before .before .before .before .before .public-rows .ensures) (s .pre .1 .0) (omega (arith, positive _ _ (s .pre .0 .admissible))) (s .pre .0 .elements);
+      elements = row-elements _ _ (s .args .publics .now) _ _ (c .before .before .before .before .before .public-rows .ensures) (s .pre .1 .0) (omega (arith, field-prime _ (s .pre .0 .admissible .one-of-three) .two)) (s .pre .0 .elements);
       spare = s .pre .1 .1;
     }
 

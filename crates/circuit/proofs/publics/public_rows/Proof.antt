@@ -1,4 +1,4 @@
--- `pointcheck::publics::public_rows` meets its contract: after i turns the first i words are written. Assumes nothing.
+-- `circuit::publics::public_rows` meets its contract: after i turns the first i words are written. Assumes nothing.
 use mathlib.Core.Path.{_≡_}
 use mathlib.Core.List.{_++_}
 use Prim.Native.Nat.{_-_, _≤_}
@@ -6,10 +6,10 @@ use native.Mathlib.Omega.{arith}
 use lib.ListN.{length, drop, length-set}
 use Rattle.algebra.specs.Lists.{tab}
 use Rattle.algebra.specs.Tables.{wrote-none, wrote-more, wrote-all}
 use Rattle.circuit.specs.Circuit.{lentPublic}
 use borrow.Author.Needs.{needs}
-use Rattle.pointcheck.proofs.publics.public_rows.Statement.{statement}
-use Rattle.pointcheck.proofs.publics.public_rows.Tie as tie
+use Rattle.circuit.proofs.publics.public_rows.Statement.{statement}
+use Rattle.circuit.proofs.publics.public_rows.Tie as tie
 
 abbrev Inv-loop : tie.InvT-loop
 Inv-loop publics out₀ i₀ out i = (i ≤ length out₀) × (out ≡ tab (lentPublic publics) i ++ drop i out₀) × (length out ≡ length out₀)
