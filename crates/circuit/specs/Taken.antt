@@ -38,14 +38,28 @@ module _ {p n : ℕ} (A : Admissible p n) where
   prepare-taken {selectors} {labels} written scratch C w s =
       taken (prepareReasons p n selectors labels written scratch) (
         not-true (A .one-of-three),
-        (not-true (A .rows),
-        (length-none (C .selectors-right .long),
-        (length-none (C .labels-right .long),
-        (length-none w,
-        (length-none s,
-        (elements-none p selectors (C .selectors-right .below),
-        (elements-none (3 * n) labels (C .labels-right .below),
-        tt))))))),
+        (
+          not-true (A .rows),
+          (
+            length-none (C .selectors-right .long),
+            (
+              length-none (C .labels-right .long),
+              (
+                length-none w,
+                (
+                  length-none s,
+                  (
+                    elements-none p selectors (C .selectors-right .below),
+                    (
+                      elements-none (3 * n) labels (C .labels-right .below),
+                      tt,
+                    ),
+                  ),
+                ),
+              ),
+            ),
+          ),
+        ),
       )
 
   pub rows-taken : {l : ℕ} {selectors labels witness publics z challenges : List ℕ} → RightCircuit p n selectors labels → RightPublics p n l publics
@@ -58,17 +72,37 @@ module _ {p n : ℕ} (A : Admissible p n) where
       (all-append P witness _ (w .below) (all-append P publics _ (X .elements .below) (all-append P z _ (u .below) (c .below)))) in
       taken (rowsReasons p n l selectors labels witness publics z challenges) (
         not-true (A .one-of-three),
-        (not-true (A .rows),
-        (le-ltb n l (X .few),
-        (length-none (C .selectors-right .long),
-        (length-none (C .labels-right .long),
-        (length-none (w .long),
-        (length-none (X .elements .long),
-        (length-none (u .long),
-        (length-none (c .long),
-        (elements-none p _ all,
-        (elements-none (3 * n) labels (C .labels-right .below),
-        tt)))))))))),
+        (
+          not-true (A .rows),
+          (
+            le-ltb n l (X .few),
+            (
+              length-none (C .selectors-right .long),
+              (
+                length-none (C .labels-right .long),
+                (
+                  length-none (w .long),
+                  (
+                    length-none (X .elements .long),
+                    (
+                      length-none (u .long),
+                      (
+                        length-none (c .long),
+                        (
+                          elements-none p _ all,
+                          (
+                            elements-none (3 * n) labels (C .labels-right .below),
+                            tt,
+                          ),
+                        ),
+                      ),
+                    ),
+                  ),
+                ),
+              ),
+            ),
+          ),
+        ),
       )
 
   pub point-taken : {l : ℕ} {publics prepared transcript challenges : List ℕ} (scratch : List ℕ) → RightPublics p n l publics
@@ -80,13 +114,29 @@ module _ {p n : ℕ} (A : Admissible p n) where
       all-append P publics _ (X .elements .below) (all-append P prepared _ (u .below) (all-append P transcript _ (t .below) (c .below))) in
       taken (pointReasons p n l publics prepared transcript challenges scratch) (
         not-true (A .one-of-three),
-        (not-true (A .rows),
-        (le-ltb n l (X .few),
-        (length-none (X .elements .long),
-        (length-none (u .long),
-        (length-none (t .long),
-        (length-none (c .long),
-        (length-none s,
-        (elements-none p _ all,
-        tt)))))))),
+        (
+          not-true (A .rows),
+          (
+            le-ltb n l (X .few),
+            (
+              length-none (X .elements .long),
+              (
+                length-none (u .long),
+                (
+                  length-none (t .long),
+                  (
+                    length-none (c .long),
+                    (
+                      length-none s,
+                      (
+                        elements-none p _ all,
+                        tt,
+                      ),
+                    ),
+                  ),
+                ),
+              ),
+            ),
+          ),
+        ),
       )

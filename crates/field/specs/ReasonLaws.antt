@@ -63,8 +63,11 @@ pub elements-none : (p : ℕ) (xs : List ℕ) → All (λ (x : ℕ). x < p) xs �
 unfolding firstAbove
 elements-none p xs a =
     le-ltb (firstAbove p xs) (length xs)
-    (omega (arith, first-none (λ k. leb p (getD xs k 0)) (length xs)
-    (λ k l e. omega (arith, leb-true p (getD xs k 0) e, all-getD (λ (x : ℕ). x < p) xs a k l))))
+    (omega (
+      arith,
+      first-none (λ k. leb p (getD xs k 0)) (length xs)
+          (λ k l e. omega (arith, leb-true p (getD xs k 0) e, all-getD (λ (x : ℕ). x < p) xs a k l)),
+    ))
 
 pub firstAbove-le : (p : ℕ) (xs : List ℕ) → firstAbove p xs ≤ length xs
 unfolding firstAbove
