@@ -4,6 +4,7 @@ pub mod Lists
 pub mod Polynomial
 pub mod Congruence
 pub mod Tables
+pub mod Ends
 pub mod Search
 pub mod Powers
 pub mod Twos

@@ -4,5 +4,7 @@
 fn main() {
     transform_cases::run();
     circuit_cases::run();
-    verifier_cases::run();
+    preparing_cases::run();
+    rowcheck_cases::run();
+    pointcheck_cases::run();
 }

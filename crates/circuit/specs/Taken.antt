@@ -2,22 +2,26 @@
 --
 -- RightCircuit p n selectors labels   5n elements, and 3n labels below 3n
 -- RightPublics p n l publics          l elements, l being at most n
+-- labels-of                           such labels are what the permutation asks
 -- prepare-taken, rows-taken, point-taken   no reason of `prepare`, `check_rows` or `check_point` applies to buffers of the right lengths that hold elements
 --
 -- Assumes nothing.
-use mathlib.Core.Path.{_≡_, refl, sym, ap, _∙_}
+use mathlib.Core.Path.{_≡_, sym, subst}
 use mathlib.Core.Bool.{Bool, true, false, not}
 use mathlib.Core.List.{List, _++_}
 use Prim.Native.Nat.{ℕ, _*_, _≤_, _<_}
+use native.Mathlib.Omega.{arith}
 use lib.ListN.{length}
 use borrow.Author.Tests.{le-ltb}
 use Rattle.algebra.specs.Lists.{All}
 use Rattle.algebra.specs.Polynomial.{Elements}
 use Rattle.algebra.specs.Tables.{all-append}
 use Rattle.field.specs.Fields.{Admissible}
+use Rattle.field.specs.Primes.{rows-power}
 use Rattle.field.specs.Reasons.{answerOf}
 use Rattle.field.specs.ReasonLaws.{taken, length-none, elements-none}
 use Rattle.transform.specs.Transform.{scratchLength}
+use Rattle.circuit.specs.Ahead.{Labels}
 use Rattle.circuit.specs.Reasons.{selectorsLength, labelsLength, witnessLength, preparedLength, transcriptLength, prepareReasons, rowsReasons, pointReasons}
 
 pub record RightCircuit (p n : ℕ) (selectors labels : List ℕ) : Type 0 where
@@ -27,6 +31,13 @@ pub record RightCircuit (p n : ℕ) (selectors labels : List ℕ) : Type 0 where
 pub record RightPublics (p n l : ℕ) (publics : List ℕ) : Type 0 where
   pub few : l ≤ n
   pub elements : Elements p l publics
+
+pub labels-of : {p : ℕ} (n : ℕ) (labels : List ℕ) → Elements (3 * n) (3 * n) labels → Admissible p n → Labels labels
+labels-of {p} n labels e A =
+    record {
+      few = omega (arith, e .long, rows-power p n (A .rows) .small);
+      below = subst (λ (m : ℕ). Elements m (3 * n) labels) (sym (e .long)) e .below;
+    }
 
 not-true : {b : Bool} → b ≡ true → not b ≡ false
 not-true e = rw e

@@ -1,8 +1,5 @@
 -- The row values that preparing interpolates.
 --
--- labels-of        3n labels below 3n are what the permutation asks
--- rest-length      the words behind the selectors are 3n
--- both-parts       the selectors in front and the tags behind make the row values
 -- rows-elements    the row values are 8n elements
 -- rows-prepared    the polynomials of the eight runs are the prepared circuit
 --
@@ -30,27 +27,6 @@ use Rattle.circuit.specs.Ahead.{Labels}
 use Rattle.circuit.specs.Reasons.{selectorsLength}
 use Rattle.protocol.specs.Protocol.{prepared, wiredTag}
 use Rattle.preparing.specs.Promises.{rowsOf}
-
-pub labels-of : {p : ℕ} (n : ℕ) (labels : List ℕ) → Elements (3 * n) (3 * n) labels → Admissible p n → Labels labels
-labels-of {p} n labels e A =
-    record {
-      few = omega (arith, e .long, rows-power p n (A .rows) .small);
-      below = subst (λ (m : ℕ). Elements m (3 * n) labels) (sym (e .long)) e .below;
-    }
-
-pub rest-length : (n a : ℕ) (out e : List ℕ) → a ≡ 5 * n → length out ≡ 8 * n → length e ≡ length (take a out)
-    → length (take (length (e ++ drop a out) - a) (drop a (e ++ drop a out))) ≡ 3 * n
-rest-length n a out e q l k =
-    let h : length e ≡ a = k ∙ simp length-take (omega arith) in
-    rw (drop-at e (drop a out) a h) (simp (length-take, length-append, length-drop) (omega arith))
-
-pub both-parts : (selectors out e w tags : List ℕ) → e ≡ selectors → w ≡ tags
-    → putMid (length selectors) (length (e ++ drop (length selectors) out) - length selectors) (e ++ drop (length selectors) out) w ≡ selectors ++ tags
-both-parts selectors out e w tags f g =
-    let h = length selectors in
-    let le : length e ≡ length selectors = ap length f in
-    let z : length (e ++ drop h out) - h ≡ length (drop h out) = simp (length-append, length-drop) (omega (arith, le)) in
-    rw (drop-at e (drop h out) h le, z, drop-length (drop h out), take-at e (drop h out) h le, append-nil w, f, g) refl
 
 pub rows-elements : (p n : ℕ) (selectors labels : List ℕ) → Admissible p n → Elements p (selectorsLength n) selectors → Elements p (8 * n) (rowsOf p n selectors labels)
 rows-elements p n selectors labels A e =

@@ -1,6 +1,6 @@
 // The row check: the three identities, row by row, in document 01's order.
 //
-// The public call is `check_rows`. The functions of `rows` are for the prover too, which has checked its numbers.
+// The public call is `check_rows`. The functions of `rows` and `tables` are for the prover too, which has checked its numbers.
 ghost use mathlib.Core.Path.{_≡_};
 ghost use lib.ListN.{getD};
 ghost use Rattle.circuit.specs.Circuit.{lentCircuit, lentPublic, lentWitness};
@@ -11,7 +11,7 @@ use field::Answer;
 
 mod reasons;
 pub mod rows;
-mod tables;
+pub mod tables;
 mod verdicts;
 
 // The identity that fails: the gate; z = 1 at row 0; the step from a row to the next.

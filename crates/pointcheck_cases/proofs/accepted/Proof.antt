@@ -1,8 +1,8 @@
--- `verifier_cases::points::accepted` is safe and ends. Assumes nothing.
+-- `pointcheck_cases::accepted` is safe and ends. Assumes nothing.
 use Prim.Native.Nat.{_-_, _≤_}
 use borrow.Author.Needs.{needs}
-use Rattle.verifier_cases.proofs.points.accepted.Statement.{statement}
-use Rattle.verifier_cases.proofs.points.accepted.Tie as tie
+use Rattle.pointcheck_cases.proofs.accepted.Statement.{statement}
+use Rattle.pointcheck_cases.proofs.accepted.Tie as tie
 
 abbrev Inv-loop : tie.InvT-loop
 Inv-loop transcript count₀ zeta₀ count zeta = zeta ≤ 17

@@ -1,0 +1,26 @@
+-- A slice that is written in two parts, one after the other: its front, and then the rest.
+--
+-- rest-length      the number of words behind a front that is written
+-- both-parts       the slice is then the two lists end to end
+--
+-- Assumes nothing.
+use mathlib.Core.Path.{_≡_, refl, _∙_}
+use mathlib.Core.List.{List, _++_, append-nil}
+use Prim.Native.Nat.{ℕ, _-_, _≤_}
+use native.Mathlib.Omega.{arith}
+use lib.ListN.{length, take, drop, length-take, length-drop, length-append}
+use lib.Seq.{take-at, drop-at, drop-length}
+use borrow.Rule.Slice.PartMut.{putMid}
+
+-- e is the front of h words, o what the slice was
+module _ (h : ℕ) (o e : List ℕ) (fits : h ≤ length o) (kept : length e ≡ length (take h o)) where
+  front-length : length e ≡ h
+  front-length = kept ∙ simp length-take (omega arith)
+
+  pub rest-length : length (take (length (e ++ drop h o) - h) (drop h (e ++ drop h o))) ≡ length o - h
+  rest-length = rw (drop-at e (drop h o) h front-length) (simp (length-take, length-append, length-drop) (omega (arith, front-length)))
+
+  pub both-parts : (w a b : List ℕ) → e ≡ a → w ≡ b → putMid h (length (e ++ drop h o) - h) (e ++ drop h o) w ≡ a ++ b
+  both-parts w a b f g =
+      let z : length (e ++ drop h o) - h ≡ length (drop h o) = simp (length-append, length-drop) (omega (arith, front-length)) in
+      rw (drop-at e (drop h o) h front-length, z, drop-length (drop h o), take-at e (drop h o) h front-length, append-nil w, f, g) refl

@@ -1,0 +1,83 @@
+// The first four polynomials of the transcript: the wires a, b, c and the grand product z, laid end to end.
+//
+// The public function is `lay_rows`, for the prover, which has checked its numbers.
+ghost use mathlib.Core.Path.{_≡_};
+ghost use mathlib.Core.List.{List};
+ghost use Prim.Native.Nat.{ℕ, _*_};
+ghost use lib.ListN.{length, getD};
+ghost use Rattle.transform.specs.Parts.{interpolated};
+ghost use Rattle.circuit.specs.Circuit.{lentCircuit, lentWitness};
+ghost use Rattle.protocol.specs.Protocol.{zOf};
+ghost use Rattle.laying.specs.Rows.{laidRows};
+ghost use Rattle.laying.specs.Buffers.{Ready};
+
+mod grand;
+
+// The polynomials of the three wires, end to end.
+fn lay_wires(
+    p: u32,
+    n: u32,
+    powers: &[u32],
+    labels: &[u32],
+    witness: &[u32],
+    out: &mut [u32],
+    spare: &mut [u32],
+)
+    requires { ⌜ Ready p n (now powers) (now labels) (now witness) ⌝ }
+    requires { ⌜ (length (now out) ≡ 3 * n) × (length (now spare) ≡ n) ⌝ }
+    ensures { λ _. ⌜ now (out .exit) ≡ interpolated p n (now (witness .entry)) 3 ⌝ }
+{
+    transform::slices::copy(witness, out);
+    transform::interpolate_parts(p, n, powers, out, spare, 3);
+}
+
+// The polynomial of z.
+fn lay_z(
+    p: u32,
+    n: u32,
+    powers: &[u32],
+    labels: &[u32],
+    witness: &[u32],
+    beta: u32,
+    gamma: u32,
+    out: &mut [u32],
+    spare: &mut [u32],
+)
+    requires { ⌜ Ready p n (now powers) (now labels) (now witness) ⌝ }
+    requires { ⌜ (length (now out) ≡ n) × (length (now spare) ≡ n) ⌝ }
+    ensures { λ _. ⌜ ((selectors : List ℕ) → now (out .exit) ≡ zOf p n (lentCircuit n selectors (now (labels .entry))) (lentWitness (now (witness .entry))) beta gamma) ⌝ }
+{
+    grand::z_rows(p, n, labels, witness, beta, gamma, out);
+    transform::interpolate_in_place(p, n, powers, out, spare);
+}
+
+// a, b, c and z end to end. The labels alone say where the permutation leads; the selectors play no part.
+pub fn lay_rows(
+    p: u32,
+    n: u32,
+    powers: &[u32],
+    labels: &[u32],
+    witness: &[u32],
+    beta: u32,
+    gamma: u32,
+    out: &mut [u32],
+    spare: &mut [u32],
+)
+    requires { ⌜ Ready p n (now powers) (now labels) (now witness) ⌝ }
+    requires { ⌜ (length (now out) ≡ 4 * n) × (length (now spare) ≡ n) ⌝ }
+    ensures { λ _. ⌜ ((selectors : List ℕ) → now (out .exit) ≡ laidRows p n (lentCircuit n selectors (now (labels .entry))) (lentWitness (now (witness .entry))) beta gamma) ⌝ }
+{
+    let k = 3 * (n as usize);
+    lay_wires(p, n, powers, labels, witness, &mut out[..k], spare);
+    lay_z(
+        p,
+        n,
+        powers,
+        labels,
+        witness,
+        beta,
+        gamma,
+        &mut out[k..],
+        spare,
+    );
+}
