@@ -29,7 +29,7 @@ use Rattle.circuit.specs.Circuit.{Circuit, position, gate, Satisfies, lentCircu
 use Rattle.circuit.specs.Reasons.{witnessLength, quotientLength, rowsReasons, pointReasons}
 use Rattle.circuit.specs.Taken.{RightCircuit, RightPublics, rows-taken, point-taken}
 use Rattle.protocol.specs.Protocol.{RowVerdict, pass, fails, rowVerdict, rowN, rowD, rowZ, PointVerdict, accept, reject, prepared, transcript, proved, zeroFactor}
-use Rattle.protocol.specs.Rows.{RowHolds, passed-row, rows-pass}
+use Rattle.protocol.specs.Rows.{RowHolds, passed-row, rows-pass, rowZ-lt}
 use Rattle.protocol.specs.Demand3.{valueAt, witnessOf, PassingPair, HoldingAlpha, AcceptedZeta, demand-3}
 use Rattle.rowcheck.specs.declared.RowAnswer.{RowAnswer}
 use Rattle.rowcheck.specs.declared.Verdict.the-variants.{None, Pass}
@@ -154,11 +154,6 @@ table-elements {p} f m h = record { long = length-tab f m; below = all-tab (λ (
 evaluation-elements : (p n : ℕ) → 0 < p → (z : List ℕ) → Elements p n (evaluation p n z)
 unfolding evaluation
 evaluation-elements p n h z = table-elements (valueAt p n z) n (λ k l. mod-lt _ h)
-
-rowZ-lt : (p n : ℕ) → 1 < p → (C : Circuit) (v : ℕ → ℕ) (beta gamma i : ℕ) → rowZ p n C v beta gamma i < p
-unfolding rowZ
-rowZ-lt p n h C v beta gamma zero = h
-rowZ-lt p n h C v beta gamma (suc i) = mod-lt _ (omega arith)
 
 module _ (p n l : ℕ) (selectors labels publics : List ℕ) where
   abbrev C : Circuit

@@ -1,6 +1,7 @@
 -- `preparing::fill_rows` meets its contract: the selectors in front, the tags behind them. Assumes nothing.
 use mathlib.Core.Path.{sym, _∙_}
 use native.Mathlib.Omega.{arith}
+use lib.ListN.{length}
 use lib.Seq.{length-take-le}
 use borrow.Author.Needs.{needs}
 use Rattle.algebra.specs.Ends.{rest-length, both-parts}
@@ -33,7 +34,7 @@ wired-tags-requires : tie.Need-wired-tags-requires
 wired-tags-requires c κs =
     let s = c .before .before .before .before .before .before .before .before .before in
     let k = c .before .before .before .copy in
-    (s .pre .0, (labels-of _ (s .args .labels .now) (s .pre .1 .1) (s .pre .0 .admissible), s .pre .1 .1 .long, rest-length _ (s .args .out .now) (k .last .1 .0) (omega arith) (k .kept .1 .0) ∙ omega arith))
+    (s .pre .0, (labels-of _ (s .args .labels .now) (s .pre .1 .1) (s .pre .0 .admissible), s .pre .1 .1 .long, rest-length (length (s .args .selectors .now)) (s .args .out .now) (k .last .1 .0) (omega arith) (k .kept .1 .0) ∙ omega arith))
 
 same-length : tie.Need-same-length
 same-length c = search needs
@@ -43,7 +44,7 @@ returns c =
     let s = c .before .before .before .before .before .before .before .before .before .before .before .before in
     let k = c .before .before .before .before .before .before .copy in
     let w = c .before .before .wired-tags in
-    both-parts _ (s .args .out .now) (k .last .1 .0) (omega arith) (k .kept .1 .0) (w .last .1 .1 .1 .1 .0) (s .args .selectors .now) _ (k .ensures) (w .ensures)
+    both-parts (length (s .args .selectors .now)) (s .args .out .now) (k .last .1 .0) (omega arith) (k .kept .1 .0) (w .last .1 .1 .1 .1 .0) (s .args .selectors .now) _ (k .ensures) (w .ensures)
 
 pub fill-rows-spec : {M : Type 1} → statement M
 fill-rows-spec =

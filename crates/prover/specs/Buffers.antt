@@ -1,0 +1,79 @@
+-- What the inner functions ask of their buffers, and F as they speak of it.
+--
+-- lentF         F of a lent circuit that is prepared, public inputs, and a, b, c, z as they are laid
+-- Ready         p and n are admissible; circuit, public inputs, challenges and scratch are lent rightly
+-- Front         the same of labels, witness and transcript
+-- Checked       what the public call has checked
+-- checked-of    it has, where no reason applies
+-- laid-F        F of a, b, c, z laid end to end is F of these polynomials
+--
+-- Assumes nothing.
+use mathlib.Core.Path.{_≡_, refl, sym, ap, _∙_}
+use mathlib.Core.List.{List, [], _++_, append-nil}
+use Prim.Native.Nat.{ℕ, _*_, _<_}
+use lib.ListN.{length, getD}
+use Rattle.algebra.specs.Lists.{All}
+use Rattle.algebra.specs.Polynomial.{Elements}
+use Rattle.field.specs.Fields.{Admissible}
+use Rattle.transform.specs.Transform.{scratchLength}
+use Rattle.circuit.specs.Circuit.{Circuit, lentCircuit, lentPublic}
+use Rattle.circuit.specs.Reasons.{transcriptLength}
+use Rattle.circuit.specs.Taken.{RightCircuit}
+use Rattle.protocol.specs.Protocol.{prepared, pointF, fOf, wiresOf, zOf, transcript}
+use Rattle.protocol.specs.Layout.{lent-F}
+use Rattle.protocol.specs.Lengths.{interpolation-length}
+use Rattle.laying.specs.Rows.{laidRows}
+use Rattle.witnesses.specs.Accepted.{Accepted}
+
+abbrev pub lentF : (p n : ℕ) (selectors labels publics laid challenges : List ℕ) → List ℕ
+lentF p n selectors labels publics laid challenges =
+    pointF p n (prepared p n (lentCircuit n selectors labels)) (lentPublic publics) laid (getD challenges 0 0) (getD challenges 1 0) (getD challenges 2 0)
+
+pub record Ready (p n : ℕ) (selectors labels publics challenges scratch : List ℕ) : Type 0 where
+  pub admissible : Admissible p n
+  pub circuit-right : RightCircuit p n selectors labels
+  pub publics-below : All (λ (x : ℕ). x < p) publics
+  pub challenges-long : length challenges ≡ 3
+  pub scratch-long : length scratch ≡ scratchLength n
+
+pub record Front (p n : ℕ) (labels witness transcript challenges scratch : List ℕ) : Type 0 where
+  pub admissible : Admissible p n
+  pub labelled : Elements (3 * n) (3 * n) labels
+  pub elements : Elements p (3 * n) witness
+  pub transcript-long : length transcript ≡ transcriptLength n
+  pub challenges-long : length challenges ≡ 3
+  pub scratch-long : length scratch ≡ scratchLength n
+
+pub record Checked (p n : ℕ) (selectors labels witness publics transcript challenges scratch : List ℕ) : Type 0 where
+  pub ready : Ready p n selectors labels publics challenges scratch
+  pub front : Front p n labels witness transcript challenges scratch
+
+pub checked-of : {p n l : ℕ} {selectors labels witness publics transcript challenges scratch : List ℕ}
+    → Accepted p n l selectors labels witness publics transcript challenges scratch
+    → Checked p n selectors labels witness publics transcript challenges scratch
+checked-of A =
+    record {
+      ready = record {
+        admissible = A .admissible;
+        circuit-right = A .circuit-right;
+        publics-below = A .publics-right .elements .below;
+        challenges-long = A .challenges-right .long;
+        scratch-long = A .scratch-long;
+      };
+      front = record {
+        admissible = A .admissible;
+        labelled = A .circuit-right .labels-right;
+        elements = A .witness-right;
+        transcript-long = A .transcript-long;
+        challenges-long = A .challenges-right .long;
+        scratch-long = A .scratch-long;
+      };
+    }
+
+pub laid-F : (p n : ℕ) (C : Circuit) (x v : ℕ → ℕ) (beta gamma alpha : ℕ)
+    → pointF p n (prepared p n C) x (laidRows p n C v beta gamma) beta gamma alpha
+    ≡ fOf p n C x (wiresOf p n v) (zOf p n C v beta gamma) beta gamma alpha
+laid-F p n C x v beta gamma alpha =
+    ap (λ (l : List ℕ). pointF p n (prepared p n C) x (wiresOf p n v 0 ++ (wiresOf p n v 1 ++ (wiresOf p n v 2 ++ l))) beta gamma alpha)
+    (sym (append-nil (zOf p n C v beta gamma)))
+    ∙ lent-F p n C x (wiresOf p n v) (zOf p n C v beta gamma) [] (λ c h. interpolation-length p n _) (interpolation-length p n _) beta gamma alpha

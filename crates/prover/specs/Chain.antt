@@ -1,0 +1,137 @@
+-- The last sentence of demand 3 about the calls themselves: what `prove` lays, `check_rows` and `check_point` take.
+--
+-- THE STATEMENT
+-- Taken     of an accepted `prove`: `check_rows`, lent the values of its z, answers Pass; `prepare`, then `check_point` at any zeta, answers Accept
+-- THE THEOREM
+-- proved-taken   Taken holds of every accepted `prove`
+--
+-- A call's answer is any that keeps the call's promise: Proves, Prepares, ChecksRows, PointChecks.
+-- Assumes nothing.
+use mathlib.Core.Path.{_≡_, refl, sym, ap, _∙_, subst}
+use mathlib.Core.Bool.{Bool, true, cond}
+use mathlib.Core.List.{List, [], _∷_}
+use Prim.Native.Nat.{ℕ, _<_}
+use native.Mathlib.Nat.{mod-eq-of-lt}
+use native.Mathlib.Omega.{arith}
+use lib.ListN.{length, getD}
+use borrow.Author.Tests.{eqb-true}
+use Rattle.algebra.specs.Lists.{tab, All}
+use Rattle.algebra.specs.Polynomial.{Elements}
+use Rattle.algebra.specs.Tables.{all-getD, tab-ext}
+use Rattle.field.specs.declared.Answer.{Answer}
+use Rattle.field.specs.Fields.{Admissible, point}
+use Rattle.field.specs.Primes.{field-prime}
+use Rattle.field.specs.Reasons.{isAccepted}
+use Rattle.transform.specs.Transform.{evaluation, scratchLength}
+use Rattle.transform.specs.Interpolation.{interpolation-one}
+use Rattle.circuit.specs.Circuit.{Circuit, lentCircuit, lentPublic, lentWitness}
+use Rattle.circuit.specs.Reasons.{preparedLength}
+use Rattle.circuit.specs.Taken.{prepare-taken}
+use Rattle.protocol.specs.Protocol.{rowZ, wiresOf, zOf, tOf, part, prepared, proved}
+use Rattle.protocol.specs.Layout.{z-part}
+use Rattle.protocol.specs.Lengths.{interpolation-length}
+use Rattle.protocol.specs.Rows.{rowZ-lt}
+use Rattle.preparing.specs.Promises.{Prepares}
+use Rattle.rowcheck.specs.declared.RowAnswer.{RowAnswer}
+use Rattle.rowcheck.specs.declared.Verdict.the-variants.{Pass}
+use Rattle.rowcheck.specs.Promises.{ChecksRows}
+use Rattle.pointcheck.specs.declared.PointAnswer.{PointAnswer}
+use Rattle.pointcheck.specs.declared.Judged.the-variants.{Accept}
+use Rattle.pointcheck.specs.Promises.{PointChecks}
+use Rattle.verifier.specs.Answers.{AnswersCounted, answers-counted}
+use Rattle.witnesses.specs.Reasons.{proverReasons}
+use Rattle.witnesses.specs.Accepted.{Accepted, accepted-of}
+use Rattle.prover.specs.Promises.{provedFrom, Proves}
+
+-- THE STATEMENT
+
+-- the buffers that `prove` was lent, and the transcript that it left
+pub record Taken (p n l : ℕ) (selectors labels witness publics challenges transcript' : List ℕ) : Type 0 where
+  -- z is part 3 of the transcript
+  pub rows-pass : (r : RowAnswer)
+      → ChecksRows p n l selectors labels witness publics (evaluation p n (part n 3 transcript')) (getD challenges 0 0 ∷ getD challenges 1 0 ∷ []) r
+      → r .verdict ≡ Pass
+  -- whatever the written buffer and the scratches held before
+  pub point-accepted : (written scratch : List ℕ) → length written ≡ preparedLength n → length scratch ≡ scratchLength n
+      → (r : Answer) (written' scratch' : List ℕ) → Prepares p n selectors labels written scratch r written' scratch'
+      → (zeta : ℕ) → zeta < p → (spare spare' : List ℕ) → length spare ≡ scratchLength n → (s : PointAnswer)
+      → PointChecks p n l publics written' transcript' (getD challenges 0 0 ∷ getD challenges 1 0 ∷ getD challenges 2 0 ∷ zeta ∷ []) spare s spare'
+      → s .verdict ≡ Accept
+
+-- THE PROOF
+
+-- the values of z's polynomial at the domain points are z on the rows
+z-values : (p n : ℕ) → Admissible p n → (C : Circuit) (v : ℕ → ℕ) (beta gamma : ℕ)
+    → evaluation p n (zOf p n C v beta gamma) ≡ tab (rowZ p n C v beta gamma) n
+unfolding evaluation
+z-values p n A C v beta gamma =
+    tab-ext _ _ n
+    (λ i h. interpolation-one p n A (rowZ p n C v beta gamma) .values i h
+    ∙ mod-eq-of-lt (rowZ-lt p n (field-prime p (A .one-of-three) .two) C v beta gamma i))
+
+accepted-number : (a : Answer) → isAccepted a ≡ true → a .number ≡ 0
+accepted-number a e = eqb-true (a .number) 0 e
+
+module _ (p n l : ℕ) (selectors labels witness publics transcript challenges scratch : List ℕ)
+    (A : Accepted p n l selectors labels witness publics transcript challenges scratch) where
+  abbrev C : Circuit
+  C = lentCircuit n selectors labels
+
+  abbrev beta : ℕ
+  beta = getD challenges 0 0
+
+  abbrev gamma : ℕ
+  gamma = getD challenges 1 0
+
+  abbrev alpha : ℕ
+  alpha = getD challenges 2 0
+
+  abbrev laid : List ℕ
+  laid = provedFrom p n selectors labels witness publics challenges
+
+  counted : AnswersCounted p n l selectors labels publics
+  counted = answers-counted p n (A .admissible) l selectors labels publics (A .circuit-right) (A .publics-right)
+
+  below : (k : ℕ) → k < 3 → getD challenges k 0 < p
+  below k h = all-getD (λ (c : ℕ). c < p) challenges (A .challenges-right .below) k (omega (arith, A .challenges-right .long))
+
+  z-lent : evaluation p n (part n 3 laid) ≡ tab (rowZ p n (lentCircuit n selectors labels) (lentWitness witness) (getD challenges 0 0) (getD challenges 1 0)) n
+  z-lent =
+      ap (evaluation p n)
+      (z-part n (wiresOf p n (lentWitness witness)) (zOf p n C (lentWitness witness) beta gamma) (tOf p n C (lentPublic publics) (lentWitness witness) beta gamma alpha)
+      (λ c h. interpolation-length p n _)
+      (interpolation-length p n _))
+      ∙ z-values p n (A .admissible) C (lentWitness witness) beta gamma
+
+  pub taken-laid : Taken p n l selectors labels witness publics challenges (provedFrom p n selectors labels witness publics challenges)
+  taken-laid =
+      record {
+        rows-pass = λ r checks.
+            counted .honest-rows witness (A .witness-right) (A .satisfies) beta gamma (below 0 (omega arith)) (below 1 (omega arith)) (A .no-zero) r
+            (subst (λ (z : List ℕ). ChecksRows p n l selectors labels witness publics z (beta ∷ gamma ∷ []) r) z-lent checks);
+        point-accepted = λ written scratch lw ls r written' scratch' prepares zeta hz spare spare' lp s checks.
+            let taken : isAccepted r ≡ true =
+            ap isAccepted (prepares .answer ∙ prepare-taken (A .admissible) written scratch (A .circuit-right) lw ls) in
+            let is : written' ≡ prepared p n C =
+            prepares .prepares ∙ ap (λ (b : Bool). cond b (prepared p n C) written) taken in
+            counted .honest-point witness (A .satisfies) beta gamma (below 0 (omega arith)) (below 1 (omega arith)) (A .no-zero) alpha zeta
+            (below 2 (omega arith))
+            hz
+            spare
+            spare'
+            lp
+            s
+            (subst (λ (w : List ℕ). PointChecks p n l publics w laid (beta ∷ gamma ∷ alpha ∷ zeta ∷ []) spare s spare') is checks);
+      }
+
+-- THE THEOREM
+
+pub proved-taken : (p n l : ℕ) (selectors labels witness publics transcript challenges scratch : List ℕ) (r : Answer) (transcript' scratch' : List ℕ)
+    → Proves p n l selectors labels witness publics transcript challenges scratch r transcript' scratch' → isAccepted r ≡ true
+    → Taken p n l selectors labels witness publics challenges transcript'
+proved-taken p n l selectors labels witness publics transcript challenges scratch r transcript' scratch' P e =
+    let laid : transcript' ≡ provedFrom p n selectors labels witness publics challenges =
+    P .lays ∙ ap (λ (b : Bool). cond b (provedFrom p n selectors labels witness publics challenges) transcript) e in
+    subst (Taken p n l selectors labels witness publics challenges) (sym laid)
+    (taken-laid p n l selectors labels witness publics transcript challenges scratch
+    (accepted-of p n l selectors labels witness publics transcript challenges scratch (ap (λ (a : Answer). a .number) (sym (P .answer)) ∙ accepted-number r e)))

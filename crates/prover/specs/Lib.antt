@@ -1,0 +1,4 @@
+-- Definitions, then theorems.
+pub mod Promises
+pub mod Buffers
+pub mod Chain

@@ -1,0 +1,27 @@
+-- What `prove` promises.
+--
+-- provedFrom    the transcript that the prover lays for lent buffers, with the challenges beta, gamma, alpha in that order
+-- Proves        refused: transcript and scratch as they came; accepted: the transcript of the definitions, and zeros in the scratch
+--
+-- Assumes nothing.
+use mathlib.Core.Path.{_≡_}
+use mathlib.Core.Bool.{cond}
+use mathlib.Core.List.{List}
+use Prim.Native.Nat.{ℕ}
+use lib.ListN.{getD, replicate}
+use Rattle.field.specs.declared.Answer.{Answer}
+use Rattle.field.specs.Reasons.{answerOf, isAccepted}
+use Rattle.transform.specs.Transform.{scratchLength}
+use Rattle.circuit.specs.Circuit.{lentCircuit, lentPublic, lentWitness}
+use Rattle.protocol.specs.Protocol.{proved}
+use Rattle.witnesses.specs.Reasons.{proverReasons}
+
+abbrev pub provedFrom : (p n : ℕ) (selectors labels witness publics challenges : List ℕ) → List ℕ
+provedFrom p n selectors labels witness publics challenges =
+    proved p n (lentCircuit n selectors labels) (lentPublic publics) (lentWitness witness) (getD challenges 0 0) (getD challenges 1 0) (getD challenges 2 0)
+
+-- selectors, labels, witness, public inputs and challenges are only read
+pub record Proves (p n l : ℕ) (selectors labels witness publics transcript challenges scratch : List ℕ) (r : Answer) (transcript' scratch' : List ℕ) : Type 0 where
+  pub answer : r ≡ answerOf (proverReasons p n l selectors labels witness publics transcript challenges scratch)
+  pub lays : transcript' ≡ cond (isAccepted r) (provedFrom p n selectors labels witness publics challenges) transcript
+  pub cleared : scratch' ≡ cond (isAccepted r) (replicate (scratchLength n) 0) scratch
