@@ -2,3 +2,4 @@
 pub mod Dividing
 pub mod PartLaws
 pub mod SumLaws
+pub mod StartLaws

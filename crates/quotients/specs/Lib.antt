@@ -1,2 +1,4 @@
+-- Definitions, then theorems.
 pub mod Sums
 pub mod Buffers
+pub mod Gates
