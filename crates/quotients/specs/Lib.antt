@@ -2,3 +2,4 @@
 pub mod Sums
 pub mod Buffers
 pub mod Gates
+pub mod Lengths
