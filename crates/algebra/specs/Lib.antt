@@ -12,6 +12,7 @@ pub mod Primes
 pub mod Sums
 pub mod Unity
 pub mod PolynomialLaws
+pub mod Same
 pub mod Counting
 pub mod Products
 pub mod Roots

@@ -15,6 +15,7 @@ mod tags;
 pub use copies::fill_permutation;
 pub use publics::public_of;
 pub use publics::public_polynomial;
+pub use tags::multiplier_of;
 pub use tags::own_tags;
 pub use tags::wired_tags;
 

@@ -1,0 +1,36 @@
+// F and its quotient by X^n - 1, on slices, for the prover.
+ghost use mathlib.Core.Path.{_≡_};
+ghost use Prim.Native.Nat.{_*_};
+ghost use Rattle.algebra.specs.Polynomial.{reduced};
+ghost use Rattle.circuit.specs.Circuit.{lentPublic};
+ghost use Rattle.protocol.specs.Protocol.{pointF};
+ghost use Rattle.quotients.specs.Buffers.{Fillable};
+
+mod division;
+mod gates;
+mod start;
+mod sums;
+
+pub use division::divide;
+
+// F of a prepared circuit, public inputs, wires and z, whatever `out` held. `powers` are the domain points; `laid` are a, b, c and z.
+pub fn fill(
+    p: u32,
+    n: u32,
+    powers: &[u32],
+    publics: &[u32],
+    prepared: &[u32],
+    laid: &[u32],
+    beta: u32,
+    gamma: u32,
+    alpha: u32,
+    out: &mut [u32],
+)
+    requires { ⌜ Fillable p n (now powers) (now publics) (now prepared) (now laid) (now out) ⌝ }
+    ensures { λ _. ⌜ now (out .exit) ≡ reduced p (6 * n) (pointF p n (now (prepared .entry)) (lentPublic (now (publics .entry))) (now (laid .entry)) beta gamma alpha) ⌝ }
+{
+    transform::slices::clear(out);
+    gates::add_public_gate(p, n, publics, prepared, laid, out);
+    steps::add_step(p, n, powers, prepared, laid, beta, gamma, alpha, out);
+    start::add_start(p, n, laid, alpha, out);
+}

@@ -1,0 +1,4 @@
+-- Laws that the functions' proofs cite.
+pub mod FactorLaws
+pub mod ProductLaws
+pub mod StepLaws

@@ -1,0 +1,3 @@
+-- Definitions.
+pub mod Factors
+pub mod Buffers
