@@ -1,4 +1,6 @@
-// F and its quotient by X^n - 1, on slices, for the prover.
+// F and its quotient by X^n - 1, on slices.
+//
+// The functions for the layers above, which have checked their numbers, are `fill` and `divide`.
 ghost use mathlib.Core.Path.{_≡_};
 ghost use Prim.Native.Nat.{_*_};
 ghost use Rattle.algebra.specs.Polynomial.{reduced};
