@@ -11,7 +11,7 @@ use field::Answer;
 
 mod reasons;
 pub mod rows;
-mod tables;
+pub mod tables;
 mod verdicts;
 
 // The identity that fails: the gate; z = 1 at row 0; the step from a row to the next.
