@@ -1,6 +1,5 @@
 -- `witnesses::decide` meets its contract: the reasons of the buffers, then those of the witness. Assumes nothing.
 use mathlib.Core.Path.{_≡_, ap, sym, _∙_}
-use lib.ListN.{getD}
 use borrow.Author.Needs.{needs}
 use Rattle.field.specs.Reasons.{answerOf}
 use Rattle.circuit.specs.Reasons.{proveReasons}
