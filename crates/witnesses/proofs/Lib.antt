@@ -1,1 +1,2 @@
 pub mod ScanLaws
+pub mod Decided

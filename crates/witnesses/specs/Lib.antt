@@ -1,3 +1,4 @@
 pub mod Reasons
 pub mod Accepted
 pub mod Scans
+pub mod Deciding

@@ -1,3 +1,76 @@
-// The prover's reasons for turning a call down, in document 01's order.
+// The prover's reasons for turning a call down, in document 01's order: those of the buffers, then those of the witness.
+//
+// The call is `decide`. Nothing is written to a lent buffer.
+ghost use mathlib.Core.Path.{_≡_};
+ghost use lib.ListN.{getD};
+ghost use Rattle.field.specs.Reasons.{answerOf};
+ghost use Rattle.circuit.specs.Circuit.{lentCircuit, lentPublic, lentWitness};
+ghost use Rattle.witnesses.specs.Reasons.{witnessReasons, proverReasons};
+ghost use Rattle.witnesses.specs.Deciding.{Checked};
+use field::Answer;
 
+mod reasons;
 mod scans;
+
+// The reasons of the witness, on checked numbers: a gate fails, a copy differs, a factor is 0.
+fn of_witness(
+    p: u32,
+    n: u32,
+    selectors: &[u32],
+    labels: &[u32],
+    witness: &[u32],
+    publics: &[u32],
+    challenges: &[u32],
+) -> Answer
+    requires { ⌜ Checked p n (now selectors) (now labels) (now witness) (now challenges) ⌝ }
+    ensures { λ r. ⌜ r ≡ answerOf (witnessReasons p n (lentCircuit n (now (selectors .entry)) (now (labels .entry))) (lentPublic (now (publics .entry))) (lentWitness (now (witness .entry))) (getD (now (challenges .entry)) 0 0) (getD (now (challenges .entry)) 1 0)) ⌝ }
+{
+    let m = n as usize;
+    let row = scans::broken_gate(p, m, selectors, witness, publics);
+    if row < m {
+        return field::refused(9, row as u32);
+    }
+    let place = scans::broken_copy(labels, witness);
+    if place < 3 * m {
+        return field::refused(10, place as u32);
+    }
+    let at = scans::zero_row(p, n, labels, witness, challenges[0], challenges[1]);
+    if at < m {
+        return field::refused(11, at as u32);
+    }
+    field::accepted()
+}
+
+// Why a call of the prover is turned down, if it is. The transcript and the scratch are looked at for their length only.
+pub fn decide(
+    p: u32,
+    n: u32,
+    l: u32,
+    selectors: &[u32],
+    labels: &[u32],
+    witness: &[u32],
+    publics: &[u32],
+    transcript: &[u32],
+    challenges: &[u32],
+    scratch: &[u32],
+) -> Answer
+    ensures { λ r. ⌜ r ≡ answerOf (proverReasons p n l (now (selectors .entry)) (now (labels .entry)) (now (witness .entry)) (now (publics .entry)) (now (transcript .entry)) (now (challenges .entry)) (now (scratch .entry))) ⌝ }
+{
+    let answer = reasons::of_buffers(
+        p,
+        n,
+        l,
+        selectors,
+        labels,
+        witness,
+        publics,
+        transcript,
+        challenges,
+        scratch,
+    );
+    let number = answer.number;
+    if number != 0 {
+        return answer;
+    }
+    of_witness(p, n, selectors, labels, witness, publics, challenges)
+}
