@@ -4,7 +4,7 @@
 ghost use mathlib.Core.Path.{_≡_};
 ghost use mathlib.Core.List.{List};
 ghost use Prim.Native.Nat.{ℕ, _*_};
-ghost use lib.ListN.{length, getD};
+ghost use lib.ListN.{length};
 ghost use Rattle.transform.specs.Parts.{interpolated};
 ghost use Rattle.circuit.specs.Circuit.{lentCircuit, lentWitness};
 ghost use Rattle.protocol.specs.Protocol.{zOf};

@@ -4,26 +4,24 @@
 -- rows-prepared    the polynomials of the eight runs are the prepared circuit
 --
 -- Assumes nothing.
-use mathlib.Core.Path.{_≡_, refl, ap, sym, subst, _∙_}
-use mathlib.Core.List.{List, _++_, append-assoc, append-nil}
-use Prim.Native.Nat.{ℕ, _+_, _*_, _-_, _<_}
+use mathlib.Core.Path.{_≡_, ap, subst, _∙_}
+use mathlib.Core.List.{List, _++_, append-assoc}
+use Prim.Native.Nat.{ℕ, _+_, _*_, _<_}
 use native.Mathlib.Nat.{mul-le-mul-right}
 use native.Mathlib.Omega.{arith}
-use lib.ListN.{length, getD, take, drop, length-take, length-drop, length-append, List·getD-append}
-use lib.Seq.{getD-append-add, take-at, drop-at, drop-length}
-use borrow.Rule.Slice.PartMut.{putMid}
+use lib.ListN.{length, getD, List·getD-append}
+use lib.Seq.{getD-append-add}
 use Rattle.algebra.specs.Lists.{tab}
 use Rattle.algebra.specs.Polynomial.{Elements}
 use Rattle.algebra.specs.PolynomialLaws.{append-elements}
 use Rattle.algebra.specs.Tables.{length-tab, getD-tab, all-tab}
 use Rattle.field.specs.Fields.{Admissible, tag}
-use Rattle.field.specs.Primes.{rows-power, field-prime}
+use Rattle.field.specs.Primes.{field-prime}
 use Rattle.field.specs.Domain.{tag-lt}
 use Rattle.transform.specs.Transform.{interpolation}
 use Rattle.transform.specs.Interpolation.{interpolation-ext}
 use Rattle.transform.specs.Parts.{laid, interpolated}
 use Rattle.circuit.specs.Circuit.{lentCircuit, permutation, position}
-use Rattle.circuit.specs.Ahead.{Labels}
 use Rattle.circuit.specs.Reasons.{selectorsLength}
 use Rattle.protocol.specs.Protocol.{prepared, wiredTag}
 use Rattle.preparing.specs.Promises.{rowsOf}

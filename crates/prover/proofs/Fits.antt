@@ -1,15 +1,28 @@
--- The parts that are lent fit into their buffers.
+-- The parts that are lent fit into their buffers, and what the buffers are when they come back.
 --
--- front-fits     a, b, c and z into the transcript
--- spare-fits     n words into the scratch
+-- front-fits, spare-fits   a, b, c and z fit into the transcript, n words into the scratch
+-- filling-fits, prepared-fits, room-fits   6n words into the scratch; the prepared circuit and the domain points into their arrays
+-- rest-put          the rest of a list behind its front, replaced
+-- rest-long         the words behind a, b, c and z are as many as t has
+-- laid-length       a, b, c and z are 4n numbers
+-- transcript-of     a, b, c and z with the quotient behind them are the prover's transcript
 --
 -- Assumes nothing.
-use mathlib.Core.List.{List}
-use Prim.Native.Nat.{ℕ, _*_, _≤_}
+use mathlib.Core.Path.{_≡_, refl, sym, ap, _∙_}
+use mathlib.Core.List.{List, _++_, append-nil}
+use Prim.Native.Nat.{ℕ, _+_, _*_, _-_, _≤_}
 use native.Mathlib.Omega.{arith}
-use lib.ListN.{length}
+use lib.ListN.{length, getD, take, drop, length-take, length-drop, length-append}
+use lib.Seq.{take-at, drop-length}
+use borrow.Rule.Slice.PartMut.{putMid}
 use Rattle.field.specs.Primes.{rows-power}
-use Rattle.prover.specs.Buffers.{Front}
+use Rattle.circuit.specs.Circuit.{Circuit, lentCircuit, lentPublic, lentWitness}
+use Rattle.circuit.specs.Reasons.{quotientLength, transcriptLength}
+use Rattle.protocol.specs.Protocol.{quotient}
+use Rattle.protocol.specs.Lengths.{interpolation-length}
+use Rattle.laying.specs.Rows.{laidRows, laid-whole}
+use Rattle.prover.specs.Promises.{provedFrom}
+use Rattle.prover.specs.Buffers.{lentF, Ready, Front, laid-F}
 
 module _ {p n : ℕ} {labels witness transcript challenges scratch : List ℕ} (F : Front p n labels witness transcript challenges scratch) where
   pub front-fits : 4 * n ≤ length transcript
@@ -17,3 +30,48 @@ module _ {p n : ℕ} {labels witness transcript challenges scratch : List ℕ} (
 
   pub spare-fits : n ≤ length scratch
   spare-fits = omega (arith, F .scratch-long)
+
+module _ {p n : ℕ} {selectors labels publics challenges scratch : List ℕ} (R : Ready p n selectors labels publics challenges scratch) where
+  pub filling-fits : 6 * n ≤ length scratch
+  filling-fits = omega (arith, R .scratch-long)
+
+  pub prepared-fits : (l : List ℕ) → 8192 ≡ length l → 8 * n ≤ length l
+  prepared-fits l e = omega (arith, rows-power p n (R .admissible .rows) .small)
+
+  pub room-fits : (l : List ℕ) → 1024 ≡ length l → n ≤ length l
+  room-fits l e = omega (arith, rows-power p n (R .admissible .rows) .small)
+
+  pub laid-fits : (transcript : List ℕ) → length transcript ≡ transcriptLength n → 4 * n ≤ length transcript
+  laid-fits transcript e = omega (arith, rows-power p n (R .admissible .rows) .least)
+
+  pub rest-long : (transcript : List ℕ) → length transcript ≡ transcriptLength n
+      → length (take (length transcript - 4 * n) (drop (4 * n) transcript)) ≡ quotientLength n
+  rest-long transcript e =
+      simp (length-take, length-drop) (omega (arith, rows-power p n (R .admissible .rows) .least))
+
+pub rest-put : (h : ℕ) (l w : List ℕ) → h ≤ length l → putMid h (length l - h) l w ≡ take h l ++ w
+rest-put h l w fits =
+    let z : length l - h ≡ length (drop h l) = sym (length-drop h l) in
+    rw (z, drop-length (drop h l), append-nil w)
+
+pub laid-length : (p n : ℕ) (C : Circuit) (v : ℕ → ℕ) (beta gamma : ℕ) → length (laidRows p n C v beta gamma) ≡ 4 * n
+laid-length p n C v beta gamma = simp (length-append, interpolation-length) (omega arith)
+
+module _ (p n : ℕ) (selectors labels witness publics challenges first rest last : List ℕ) where
+  abbrev C : Circuit
+  C = lentCircuit n selectors labels
+
+  abbrev laid : List ℕ
+  laid = laidRows p n (lentCircuit n selectors labels) (lentWitness witness) (getD challenges 0 0) (getD challenges 1 0)
+
+  pub transcript-of : first ≡ laidRows p n (lentCircuit n selectors labels) (lentWitness witness) (getD challenges 0 0) (getD challenges 1 0) ++ rest
+      → last ≡ take (4 * n) first ++ quotient p n (lentF p n selectors labels publics (take (4 * n) first) challenges)
+      → last ≡ provedFrom p n selectors labels witness publics challenges
+  transcript-of e f =
+      let front : take (4 * n) first ≡ laid =
+      ap (take (4 * n)) e ∙ take-at laid rest (4 * n) (laid-length p n C (lentWitness witness) (getD challenges 0 0) (getD challenges 1 0)) in
+      f
+      ∙ ap (λ (l : List ℕ). l ++ quotient p n (lentF p n selectors labels publics l challenges)) front
+      ∙ ap (λ (g : List ℕ). laid ++ quotient p n g)
+      (laid-F p n C (lentPublic publics) (lentWitness witness) (getD challenges 0 0) (getD challenges 1 0) (getD challenges 2 0))
+      ∙ laid-whole p n C (lentPublic publics) (lentWitness witness) (getD challenges 0 0) (getD challenges 1 0) (getD challenges 2 0)

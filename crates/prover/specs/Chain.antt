@@ -7,7 +7,7 @@
 --
 -- A call's answer is any that keeps the call's promise: Proves, Prepares, ChecksRows, PointChecks.
 -- Assumes nothing.
-use mathlib.Core.Path.{_≡_, refl, sym, ap, _∙_, subst}
+use mathlib.Core.Path.{_≡_, sym, ap, _∙_, subst}
 use mathlib.Core.Bool.{Bool, true, cond}
 use mathlib.Core.List.{List, [], _∷_}
 use Prim.Native.Nat.{ℕ, _<_}
@@ -15,11 +15,10 @@ use native.Mathlib.Nat.{mod-eq-of-lt}
 use native.Mathlib.Omega.{arith}
 use lib.ListN.{length, getD}
 use borrow.Author.Tests.{eqb-true}
-use Rattle.algebra.specs.Lists.{tab, All}
-use Rattle.algebra.specs.Polynomial.{Elements}
+use Rattle.algebra.specs.Lists.{tab}
 use Rattle.algebra.specs.Tables.{all-getD, tab-ext}
 use Rattle.field.specs.declared.Answer.{Answer}
-use Rattle.field.specs.Fields.{Admissible, point}
+use Rattle.field.specs.Fields.{Admissible}
 use Rattle.field.specs.Primes.{field-prime}
 use Rattle.field.specs.Reasons.{isAccepted}
 use Rattle.transform.specs.Transform.{evaluation, scratchLength}
@@ -27,7 +26,7 @@ use Rattle.transform.specs.Interpolation.{interpolation-one}
 use Rattle.circuit.specs.Circuit.{Circuit, lentCircuit, lentPublic, lentWitness}
 use Rattle.circuit.specs.Reasons.{preparedLength}
 use Rattle.circuit.specs.Taken.{prepare-taken}
-use Rattle.protocol.specs.Protocol.{rowZ, wiresOf, zOf, tOf, part, prepared, proved}
+use Rattle.protocol.specs.Protocol.{rowZ, wiresOf, zOf, tOf, part, prepared}
 use Rattle.protocol.specs.Layout.{z-part}
 use Rattle.protocol.specs.Lengths.{interpolation-length}
 use Rattle.protocol.specs.Rows.{rowZ-lt}
@@ -39,7 +38,6 @@ use Rattle.pointcheck.specs.declared.PointAnswer.{PointAnswer}
 use Rattle.pointcheck.specs.declared.Judged.the-variants.{Accept}
 use Rattle.pointcheck.specs.Promises.{PointChecks}
 use Rattle.verifier.specs.Answers.{AnswersCounted, answers-counted}
-use Rattle.witnesses.specs.Reasons.{proverReasons}
 use Rattle.witnesses.specs.Accepted.{Accepted, accepted-of}
 use Rattle.prover.specs.Promises.{provedFrom, Proves}
 

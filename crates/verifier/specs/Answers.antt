@@ -9,10 +9,10 @@
 --
 -- A call's answer r is any that keeps the call's promise: ChecksRows or PointChecks. `AtMost K P` says that at most K things satisfy P.
 -- Assumes nothing.
-use mathlib.Core.Path.{_≡_, refl, sym, ap, _∙_}
+use mathlib.Core.Path.{_≡_, refl, sym, _∙_}
 use mathlib.Core.Bool.{Bool, true, false, cond}
 use mathlib.Core.List.{List, [], _∷_}
-use Prim.Native.Nat.{ℕ, zero, suc, _*_, _-_, _%_, _<_}
+use Prim.Native.Nat.{ℕ, suc, _*_, _-_, _%_, _<_}
 use native.Mathlib.Nat.{mod-lt}
 use native.Mathlib.Omega.{arith}
 use lib.ListN.{length}
@@ -26,7 +26,7 @@ use Rattle.field.specs.Reasons.{answerOf, isAccepted}
 use Rattle.field.specs.declared.Answer.{Answer}
 use Rattle.transform.specs.Transform.{evaluation, scratchLength}
 use Rattle.circuit.specs.Circuit.{Circuit, position, gate, Satisfies, lentCircuit, lentPublic, lentWitness}
-use Rattle.circuit.specs.Reasons.{witnessLength, quotientLength, rowsReasons, pointReasons}
+use Rattle.circuit.specs.Reasons.{witnessLength, quotientLength, rowsReasons}
 use Rattle.circuit.specs.Taken.{RightCircuit, RightPublics, rows-taken, point-taken}
 use Rattle.protocol.specs.Protocol.{RowVerdict, pass, fails, rowVerdict, rowN, rowD, rowZ, PointVerdict, accept, reject, prepared, transcript, proved, zeroFactor}
 use Rattle.protocol.specs.Rows.{RowHolds, passed-row, rows-pass, rowZ-lt}

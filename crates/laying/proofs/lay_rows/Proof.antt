@@ -1,13 +1,12 @@
 -- `laying::lay_rows` meets its contract: the wires in front, z behind them. Assumes nothing.
 use mathlib.Core.Path.{refl, sym, _∙_}
-use Prim.Native.Nat.{_*_, _≤_}
+use Prim.Native.Nat.{_*_}
 use native.Mathlib.Omega.{arith}
-use lib.ListN.{length}
 use lib.Seq.{length-take-le}
 use borrow.Author.Needs.{needs}
 use Rattle.algebra.specs.Ends.{rest-length, both-parts}
 use Rattle.field.specs.Primes.{rows-power}
-use Rattle.circuit.specs.Circuit.{lentCircuit, lentWitness}
+use Rattle.circuit.specs.Circuit.{lentCircuit}
 use Rattle.laying.proofs.ZLaws.{wires-laid}
 use Rattle.laying.proofs.lay_rows.Statement.{statement}
 use Rattle.laying.proofs.lay_rows.Tie as tie

@@ -1,5 +1,5 @@
 -- `laying::lay_wires` meets its contract: the wire values are copied, and each run interpolated in place. Assumes nothing.
-use mathlib.Core.Path.{ap, sym, _∙_}
+use mathlib.Core.Path.{ap, _∙_}
 use mathlib.Core.List.{List}
 use Prim.Native.Nat.{ℕ}
 use native.Mathlib.Omega.{arith}

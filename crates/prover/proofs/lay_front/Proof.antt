@@ -1,5 +1,5 @@
 -- `prover::lay_front` meets its contract: a, b, c and z in front, the rest as it was. Assumes nothing.
-use mathlib.Core.Path.{sym, ap, _∙_}
+use mathlib.Core.Path.{sym, ap}
 use mathlib.Core.List.{List, _++_}
 use Prim.Native.Nat.{ℕ, _*_, _≤_}
 use native.Mathlib.Omega.{arith}
@@ -7,7 +7,6 @@ use lib.ListN.{length, drop}
 use lib.Seq.{length-take-le}
 use borrow.Author.Needs.{needs}
 use Rattle.field.specs.Primes.{rows-power}
-use Rattle.prover.specs.Buffers.{Front}
 use Rattle.prover.proofs.Fits.{front-fits, spare-fits}
 use Rattle.prover.proofs.lay_front.Statement.{statement}
 use Rattle.prover.proofs.lay_front.Tie as tie

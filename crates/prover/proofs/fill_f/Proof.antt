@@ -1,0 +1,134 @@
+-- `prover::fill_f` meets its contract: the circuit is prepared in an array, and F is made from it. Assumes nothing.
+use mathlib.Core.Path.{sym, ap, _∙_}
+use mathlib.Core.List.{List, _++_}
+use Prim.Native.Nat.{ℕ, _*_, _≤_}
+use native.Mathlib.Omega.{arith}
+use lib.ListN.{length, getD, drop}
+use lib.Seq.{take-at, length-take-le, length-front}
+use borrow.Author.Needs.{needs}
+use Rattle.algebra.specs.Polynomial.{reduced}
+use Rattle.circuit.specs.Circuit.{lentPublic}
+use Rattle.protocol.specs.Protocol.{pointF}
+use Rattle.prover.proofs.Fits.{filling-fits, prepared-fits, room-fits}
+use Rattle.prover.proofs.fill_f.Statement.{statement}
+use Rattle.prover.proofs.fill_f.Tie as tie
+
+-- the arrays have room, and the one that is written still has
+prepared-fit : (c : tie.After-blank-8192) → 8 * c .before .before .before .before .before .before .before .args .n ≤ length (c .blank-8192 .result)
+prepared-fit c = prepared-fits (c .before .before .before .before .before .before .before .pre .0) (c .blank-8192 .result) (c .blank-8192 .ensures)
+
+powers-fit : (c : tie.After-domain-points) → c .before .before .before .before .before .before .before .before .args .n ≤ length (c .domain-points .result)
+powers-fit c = room-fits (c .before .before .before .before .before .before .before .before .pre .0) (c .domain-points .result) (c .domain-points .ensures .0)
+
+still-fit : (c : tie.After-work) → 8 * c .before .before .before .before .before .before .before .before .before .before .before .args .n ≤ length (c .work .last .1 .1 .1 .1 .0 ++ drop (8 * c .before .before .before .before .before .before .before .before .before .before .before .args .n) (c .before .before .before .before .blank-8192 .result))
+still-fit c =
+    omega (arith, length-front (c .before .before .before .before .blank-8192 .result) (c .work .last .1 .1 .1 .1 .0) (8 * c .before .before .before .before .before .before .before .before .before .before .before .args .n) (c .work .kept .1 .1 .1 .1 .0), prepared-fit (c .before .before .before .before))
+
+-- F has room in the scratch
+scratch-fit : (c : tie.After-work) → 6 * c .before .before .before .before .before .before .before .before .before .before .before .args .n ≤ length (c .work .last .1 .1 .1 .1 .1 .0)
+scratch-fit c = omega (arith, c .work .kept .1 .1 .1 .1 .1 .0, filling-fits (c .before .before .before .before .before .before .before .before .before .before .before .pre .0))
+
+mul-k : tie.Need-mul-k
+mul-k c = search needs
+
+mul-end : tie.Need-mul-end
+mul-end c = search needs
+
+blank-8192-requires : tie.Need-blank-8192-requires
+blank-8192-requires c κs = search needs
+
+domain-points-requires : tie.Need-domain-points-requires
+domain-points-requires c κs = search needs
+
+array-borrow-prefix-prepared : tie.Need-array-borrow-prefix-prepared
+array-borrow-prefix-prepared c = prepared-fit (c .before)
+
+slice-aggregate-work : tie.Need-slice-aggregate-work
+slice-aggregate-work c = sym (length-take-le _ _ (prepared-fit (c .before .before)))
+
+work-requires : tie.Need-work-requires
+work-requires c κs =
+    let R = c .before .before .before .before .before .before .before .before .before .before .pre .0 in
+    record {
+      admissible = R .admissible;
+      elements = R .circuit-right .selectors-right;
+      labelled = R .circuit-right .labels-right;
+      written-length = length-take-le _ _ (prepared-fit (c .before .before .before));
+      scratch-length = R .scratch-long;
+    }
+
+array-share-prefix-powers : tie.Need-array-share-prefix-powers
+array-share-prefix-powers c = powers-fit (c .before .before .before .before .before .before)
+
+slice-aggregate-fill : tie.Need-slice-aggregate-fill
+slice-aggregate-fill c = sym (length-take-le _ _ (powers-fit (c .before .before .before .before .before .before .before)))
+
+array-share-prefix-prepared : tie.Need-array-share-prefix-prepared
+array-share-prefix-prepared c = still-fit (c .before .before .before .before)
+
+slice-aggregate-fill-2 : tie.Need-slice-aggregate-fill-2
+slice-aggregate-fill-2 c = sym (length-take-le _ _ (still-fit (c .before .before .before .before .before)))
+
+shared-slice-read-fill : tie.Need-shared-slice-read-fill
+shared-slice-read-fill c = search needs
+
+shared-slice-read-fill-2 : tie.Need-shared-slice-read-fill-2
+shared-slice-read-fill-2 c = search needs
+
+shared-slice-read-fill-3 : tie.Need-shared-slice-read-fill-3
+shared-slice-read-fill-3 c = search needs
+
+slice-relend-prefix-fill : tie.Need-slice-relend-prefix-fill
+slice-relend-prefix-fill c = scratch-fit (c .before .before .before .before .before .before .before .before)
+
+slice-aggregate-fill-3 : tie.Need-slice-aggregate-fill-3
+slice-aggregate-fill-3 c = sym (length-take-le _ _ (scratch-fit (c .before .before .before .before .before .before .before .before .before)))
+
+fill-requires : tie.Need-fill-requires
+fill-requires c κs =
+    let s = c .before .before .before .before .before .before .before .before .before .before .before .before .before .before .before .before .before .before .before .before in
+    record {
+      points = record { admissible = s .pre .0 .admissible; points = c .before .before .before .before .before .before .before .before .before .before .before .before .domain-points .ensures .1 };
+      public-rows = record { admissible = s .pre .0 .admissible; elements = s .pre .0 .publics-below };
+      prepared-length = length-take-le _ _ (still-fit (c .before .before .before .before .before .before .before .before .before));
+      laid-length = s .pre .1;
+      out-length = length-take-le _ _ (scratch-fit (c .before .before .before .before .before .before .before .before .before));
+    }
+
+same-length : tie.Need-same-length
+same-length c = search needs
+
+returns : tie.Need-returns
+returns c =
+    let a = c .before .before .before .before .before .before .before .before .before .before .before .before .before .before .before .before .before .before .before .before .before .before .before .args in
+    let f = c .before .before .fill in
+    let w = c .before .before .before .before .before .before .before .before .before .before .before .before .work in
+    let d = a .challenges .now in
+    take-at (f .last .1 .1 .1 .1 .1 .1 .1 .1 .1 .0) _ (6 * a .n) (f .kept .1 .1 .1 .1 .1 .1 .1 .1 .1 .0 ∙ length-take-le _ _ (scratch-fit (c .before .before .before .before .before .before .before .before .before .before .before .before)))
+    ∙ f .ensures
+    ∙ ap (λ (pre : List ℕ). reduced (a .p) (6 * a .n) (pointF (a .p) (a .n) pre (lentPublic (a .publics .now)) (a .laid .now) (getD d 0 0) (getD d 1 0) (getD d 2 0)))
+    (take-at (w .last .1 .1 .1 .1 .0) _ (8 * a .n) (w .kept .1 .1 .1 .1 .0 ∙ length-take-le _ _ (prepared-fit (c .before .before .before .before .before .before .before .before .before .before .before .before .before .before .before .before))) ∙ w .ensures .0)
+
+pub fill-f-spec : {M : Type 1} → statement M
+fill-f-spec =
+    tie.close
+    (tie.spec
+    mul-k
+    mul-end
+    blank-8192-requires
+    domain-points-requires
+    array-borrow-prefix-prepared
+    slice-aggregate-work
+    work-requires
+    array-share-prefix-powers
+    slice-aggregate-fill
+    array-share-prefix-prepared
+    slice-aggregate-fill-2
+    shared-slice-read-fill
+    shared-slice-read-fill-2
+    shared-slice-read-fill-3
+    slice-relend-prefix-fill
+    slice-aggregate-fill-3
+    fill-requires
+    same-length
+    returns)
