@@ -1,6 +1,5 @@
 -- `prover::work` meets its contract: a, b, c and z, t behind them, and the scratch cleared. Assumes nothing.
 use mathlib.Core.Path.{ap, _∙_}
-use mathlib.Core.List.{List}
 use Prim.Native.Nat.{ℕ}
 use lib.ListN.{replicate}
 use borrow.Author.Needs.{needs}
