@@ -1,0 +1,111 @@
+-- The sheet (document 01, "The sheet"): which bytes are one, and the numbers that stand on it. Lines count from 0 here.
+--
+-- LINES
+-- fieldsDue n l i      how many numbers line i has: 3 on the first, then n lines of 8, n of 3, l of 1, and one of 4
+-- linesDue n l         how many lines there are
+-- lineAt s n l i       where line i starts
+-- numberOf s n l i j   number j of line i
+-- sheetP, sheetN, sheetL   p, n and l: the numbers of the first line
+-- badLine s n l        the lowest line from 1 on that is missing or out of form; linesDue where there is none
+-- isExtra s n l        something stands behind the last line that is due
+-- NUMBERS AS THEY ARE LENT
+-- onSelectors, onLabels, onWitness, onPublics, onChallenges   number k of each buffer
+-- padded m f count     count numbers, and zeros behind them up to m
+-- REASONS
+-- tooLong s            the sheet has more than 65,536 bytes
+-- sheetReasons         of `read`, for the lengths of the five lent buffers
+--
+-- Assumes nothing.
+use mathlib.Core.Bool.{Bool, not, cond, _||_}
+use mathlib.Core.List.{List, [], _∷_, _++_}
+use Prim.Native.Nat.{ℕ, zero, suc, _+_, _*_, _-_, _/_, _%_}
+use lib.Dec.{eqb, leb, ltb}
+use lib.ListN.{length, replicate}
+use Rattle.algebra.specs.Lists.{tab}
+use Rattle.algebra.specs.Modular.{first}
+use Rattle.field.specs.Fields.{isRows}
+use Rattle.field.specs.Reasons.{Reason, badField, badLength, badElement}
+use Rattle.circuit.specs.Reasons.{badPublics, badLabel}
+use Rattle.text.specs.Text.{numberAt, fieldAt, isLineAt}
+
+-- LINES
+
+unfoldable pub fieldsDue : ℕ → ℕ → ℕ → ℕ
+fieldsDue n l i =
+    cond (eqb i 0) 3 (cond (leb i n) 8 (cond (leb i (n + n)) 3 (cond (leb i (n + n + l)) 1 4)))
+
+abbrev pub linesDue : ℕ → ℕ → ℕ
+linesDue n l = n + n + l + 2
+
+unfoldable pub lineAt : List ℕ → ℕ → ℕ → ℕ → ℕ
+lineAt s n l zero = 0
+lineAt s n l (suc i) = fieldAt s (lineAt s n l i) (fieldsDue n l i)
+
+unfoldable pub numberOf : List ℕ → ℕ → ℕ → ℕ → ℕ → ℕ
+numberOf s n l i j = numberAt s (fieldAt s (lineAt s n l i) j)
+
+-- the first line starts at 0, and has 3 numbers whatever n and l are
+abbrev pub sheetP : List ℕ → ℕ
+sheetP s = numberAt s (fieldAt s 0 0)
+
+abbrev pub sheetN : List ℕ → ℕ
+sheetN s = numberAt s (fieldAt s 0 1)
+
+abbrev pub sheetL : List ℕ → ℕ
+sheetL s = numberAt s (fieldAt s 0 2)
+
+unfoldable pub badLine : List ℕ → ℕ → ℕ → ℕ
+badLine s n l = first (λ i. not (isLineAt s (lineAt s n l i) (fieldsDue n l i))) 1 (n + n + l + 1)
+
+abbrev pub isExtra : List ℕ → ℕ → ℕ → Bool
+isExtra s n l = ltb (lineAt s n l (linesDue n l)) (length s)
+
+-- NUMBERS AS THEY ARE LENT
+
+-- lent column after column: number k of a buffer is in column k / n and row k % n
+abbrev pub onSelectors : List ℕ → ℕ → ℕ → ℕ → ℕ
+onSelectors s n l k = numberOf s n l (suc (k % n)) (k / n)
+
+abbrev pub onLabels : List ℕ → ℕ → ℕ → ℕ → ℕ
+onLabels s n l k = numberOf s n l (suc (k % n)) (5 + k / n)
+
+abbrev pub onWitness : List ℕ → ℕ → ℕ → ℕ → ℕ
+onWitness s n l k = numberOf s n l (n + suc (k % n)) (k / n)
+
+abbrev pub onPublics : List ℕ → ℕ → ℕ → ℕ → ℕ
+onPublics s n l k = numberOf s n l (n + n + suc k) 0
+
+abbrev pub onChallenges : List ℕ → ℕ → ℕ → ℕ → ℕ
+onChallenges s n l k = numberOf s n l (n + n + l + 1) k
+
+abbrev pub padded : ℕ → (ℕ → ℕ) → ℕ → List ℕ
+padded m f count = tab f count ++ replicate (m - count) 0
+
+-- REASONS
+
+abbrev pub tooLong : List ℕ → Bool
+tooLong s = ltb 65536 (length s)
+
+-- the elements in the order of 7: selectors, witness, public inputs, challenges
+abbrev pub sheetElements : List ℕ → ℕ → ℕ → List ℕ
+sheetElements s n l =
+    tab (onSelectors s n l) (5 * n) ++ (tab (onWitness s n l) (3 * n) ++ (tab (onPublics s n l) l ++ tab (onChallenges s n l) 4))
+
+abbrev pub sheetReasons : (s : List ℕ) (selectors labels witness publics challenges : ℕ) → List Reason
+sheetReasons s selectors labels witness publics challenges =
+    let p : ℕ = sheetP s in
+    let n : ℕ = sheetN s in
+    let l : ℕ = sheetL s in
+    record { number = 1; detail = 0; applies = tooLong s || not (isLineAt s 0 3) }
+    ∷ badField p
+    ∷ record { number = 3; detail = 0; applies = not (isRows p n) || ltb 256 n }
+    ∷ badPublics l n
+    ∷ record { number = 5; detail = suc (badLine s n l); applies = ltb (badLine s n l) (linesDue n l) || isExtra s n l }
+    ∷ badLength 2 selectors 1280
+    ∷ badLength 3 labels 768
+    ∷ badLength 4 witness 768
+    ∷ badLength 5 publics 256
+    ∷ badLength 6 challenges 4
+    ∷ badElement p (sheetElements s n l)
+    ∷ badLabel n (tab (onLabels s n l) (3 * n))
+    ∷ []

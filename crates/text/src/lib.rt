@@ -1,0 +1,1 @@
+// Theory only for now.
