@@ -7,4 +7,6 @@ fn main() {
     preparing_cases::run();
     rowcheck_cases::run();
     pointcheck_cases::run();
+    prover_cases::run();
+    prover_circuits::run();
 }

@@ -1,2 +1,4 @@
 -- Definitions, then theorems.
 pub mod Text
+pub mod Decimal
+pub mod ReadBack

@@ -1,0 +1,149 @@
+// Circuits with contents that satisfy them, made from a fixed sequence of numbers.
+//
+// The labels are drawn first, each variable has a value, and qC is what makes each gate hold. A place past a buffer's end reads as 0.
+use case_tools::buffers;
+
+// The number after x in the sequence.
+fn next(x: u32) -> u32 {
+    let y = (x as u64 * 48271 + 11) % 2147483647;
+    y as u32
+}
+
+// a + b × c modulo p, and 0 for p = 0.
+pub fn mul_add(p: u32, a: u32, b: u32, c: u32) -> u32 {
+    if p == 0 {
+        0
+    } else {
+        field::mul_add(p, a, b, c)
+    }
+}
+
+// a - b modulo p, and 0 for p = 0.
+fn minus(p: u32, a: u32, b: u32) -> u32 {
+    if p == 0 {
+        0
+    } else {
+        field::mul_add(p, a, p - 1, b)
+    }
+}
+
+// A number below p that looks random.
+pub fn draw(p: u32, seed: u32) -> u32 {
+    mul_add(p, next(next(seed)), 0, 0)
+}
+
+// A number from 1 to p - 1 that looks random; 0 for p below 2.
+pub fn draw_positive(p: u32, seed: u32) -> u32 {
+    if p < 2 {
+        0
+    } else {
+        mul_add(p, 1, 1, draw(p - 1, seed))
+    }
+}
+
+// The transcript's length for n rows.
+pub fn transcript_length(n: u32) -> usize {
+    if n == 0 { 0 } else { 7 * (n as usize) - 3 }
+}
+
+// The last position of n rows, which is the place of the last qO too.
+pub fn last_position(n: u32) -> usize {
+    if n == 0 { 0 } else { 3 * (n as usize) - 1 }
+}
+
+// The word at a place.
+pub fn at(xs: &[u32], place: usize) -> u32 {
+    if place < xs.len() { xs[place] } else { 0 }
+}
+
+// Numbers below p from the sequence.
+fn fill(p: u32, seed: u32, xs: &mut [u32]) {
+    let mut x = next(seed);
+    for i in 0..xs.len() {
+        x = next(x);
+        xs[i] = mul_add(p, x, 0, 0);
+    }
+}
+
+// The value of the variable with a label.
+fn value(p: u32, seed: u32, label: u32) -> u32 {
+    mul_add(p, seed, label, mul_add(p, seed, label, label))
+}
+
+// Contents that give each variable its value.
+fn fill_contents(p: u32, seed: u32, labels: &[u32], witness: &mut [u32]) {
+    for i in 0..witness.len() {
+        witness[i] = value(p, seed, at(labels, i));
+    }
+}
+
+// What qL, qR, qO and qM make of a row's contents.
+fn wires(p: u32, n: u32, row: u32, selectors: &[u32], witness: &[u32]) -> u32 {
+    let m = n as usize;
+    let i = row as usize;
+    let a = at(witness, i);
+    let b = at(witness, m + i);
+    let c = at(witness, 2 * m + i);
+    let left = mul_add(p, 0, at(selectors, i), a);
+    let right = mul_add(p, left, at(selectors, m + i), b);
+    let out = mul_add(p, right, at(selectors, 2 * m + i), c);
+    let ab = mul_add(p, 0, a, b);
+    mul_add(p, out, at(selectors, 3 * m + i), ab)
+}
+
+// The qC that makes each gate hold.
+fn fill_constants(p: u32, n: u32, selectors: &mut [u32], witness: &[u32], publics: &[u32]) {
+    for row in 0..n {
+        let w = wires(p, n, row, selectors, witness);
+        let x = at(publics, row as usize);
+        let place = 4 * (n as usize) + row as usize;
+        buffers::put(selectors, place, minus(p, x, w));
+    }
+}
+
+// Labels below `variables` for n rows. The last position shares the first one's label.
+pub fn labels(n: u32, variables: u32) -> [u32; 3072] {
+    let mut xs = field::blank_3072();
+    fill(variables, n, &mut xs);
+    let first = at(&xs, 0);
+    buffers::put(&mut xs, last_position(n), first);
+    xs
+}
+
+// Contents that give each variable its value.
+pub fn contents(p: u32, n: u32, labels: &[u32]) -> [u32; 3072] {
+    let mut xs = field::blank_3072();
+    fill_contents(p, n, labels, &mut xs);
+    xs
+}
+
+// Public inputs.
+pub fn publics(p: u32, n: u32) -> [u32; 1024] {
+    let mut xs = field::blank_1024();
+    fill(p, next(n), &mut xs);
+    xs
+}
+
+// Selectors whose gates the contents and the public inputs satisfy. The last qO is -1.
+pub fn selectors(p: u32, n: u32, witness: &[u32], publics: &[u32]) -> [u32; 8192] {
+    let mut xs = field::blank_8192();
+    fill(p, next(next(n)), &mut xs);
+    buffers::put(&mut xs, last_position(n), minus(p, 0, 1));
+    fill_constants(p, n, &mut xs, witness, publics);
+    xs
+}
+
+// The words from a buffer's start, as many as there is room for, with one of them raised by one modulo p.
+fn fill_raised(p: u32, place: usize, xs: &[u32], out: &mut [u32]) {
+    for i in 0..out.len() {
+        out[i] = at(xs, i);
+    }
+    buffers::put(out, place, mul_add(p, at(xs, place), 1, 1));
+}
+
+// A buffer with one word raised by one modulo p.
+pub fn raised(p: u32, place: usize, xs: &[u32]) -> [u32; 8192] {
+    let mut out = field::blank_8192();
+    fill_raised(p, place, xs, &mut out);
+    out
+}

@@ -1,0 +1,60 @@
+-- The numbers that docs/READER.md works out by hand, beyond those of the scope's own table: each is what the definitions give.
+--
+-- table      what the page names, what the definitions make of it, what the page says
+-- by-hand    every row is right
+--
+-- Assumes nothing.
+use mathlib.Core.Path.{_≡_, refl}
+use mathlib.Core.List.{List, [], _∷_}
+use Prim.Native.Nat.{ℕ}
+use Rattle.algebra.specs.Lists.{tab, All}
+use Rattle.algebra.specs.Modular.{powF, first, inverse}
+use Rattle.algebra.specs.Polynomial.{mulP, dilate, reduced, remainderVanishing}
+use Rattle.field.specs.Fields.{generator, root, point, multiplier, tag}
+use Rattle.transform.specs.Transform.{interpolation}
+use Rattle.circuit.specs.Circuit.{permutation}
+use Rattle.protocol.specs.Protocol.{wiredTag, rowN, rowD, rowZ, polyN, polyD, polyL, gatePart, stepPart, startPart, polyF, preparedPoly, prepared, wiresOf, zOf}
+use Rattle.protocol.specs.Worked.{circuit, publics, witness, Case, number, numbers, _&_}
+
+abbrev pre : ℕ → List ℕ
+pre = preparedPoly 17 2 circuit
+
+abbrev wire : ℕ → List ℕ
+wire = wiresOf 17 2 witness
+
+abbrev z : List ℕ
+z = zOf 17 2 circuit witness 1 1
+
+abbrev x : List ℕ
+x = interpolation 17 2 publics
+
+abbrev F : List ℕ
+F = polyF 17 2 pre wire x z 1 1 2
+
+abbrev pub table : List Case
+table =
+    record { what = "w"; is = number (root 17 2); should = number 16 }
+    ∷ record { what = "1/2"; is = number (inverse 17 2); should = number 9 }
+    ∷ record { what = "1/15"; is = number (inverse 17 15); should = number 8 }
+    ∷ record { what = "tags of where the permutation leads"; is = numbers (tab (wiredTag 17 2 circuit) 6); should = numbers (1 ∷ 14 ∷ 3 ∷ 9 ∷ 16 ∷ 8 ∷ []) }
+    ∷ record { what = "selectors and wired tags as polynomials"; is = numbers (prepared 17 2 circuit); should = numbers (9 ∷ 8 ∷ 9 ∷ 8 ∷ 16 ∷ 0 ∷ 9 ∷ 9 ∷ 0 ∷ 0 ∷ 16 ∷ 2 ∷ 6 ∷ 14 ∷ 12 ∷ 4 ∷ []) }
+    ∷ record { what = "qL × a"; is = numbers (reduced 17 3 (mulP (pre 0) (wire 0))); should = numbers (2 ∷ 14 ∷ 1 ∷ []) }
+    ∷ record { what = "qR × b"; is = numbers (reduced 17 3 (mulP (pre 1) (wire 1))); should = numbers (15 ∷ 14 ∷ 5 ∷ []) }
+    ∷ record { what = "qO × c"; is = numbers (reduced 17 3 (mulP (pre 2) (wire 2))); should = numbers (8 ∷ 3 ∷ 0 ∷ []) }
+    ∷ record { what = "qM × a × b"; is = numbers (reduced 17 4 (mulP (mulP (pre 3) (wire 0)) (wire 1))); should = numbers (9 ∷ 10 ∷ 11 ∷ 10 ∷ []) }
+    ∷ record { what = "gate"; is = numbers (reduced 17 4 (gatePart 17 pre wire x)); should = numbers (0 ∷ 7 ∷ 0 ∷ 10 ∷ []) }
+    ∷ record { what = "N"; is = numbers (reduced 17 4 (polyN 17 wire 1 1)); should = numbers (3 ∷ 15 ∷ 14 ∷ 8 ∷ []) }
+    ∷ record { what = "D"; is = numbers (reduced 17 4 (polyD pre wire 1 1)); should = numbers (9 ∷ 7 ∷ 16 ∷ 0 ∷ []) }
+    ∷ record { what = "z × N"; is = numbers (reduced 17 5 (mulP z (polyN 17 wire 1 1))); should = numbers (14 ∷ 8 ∷ 16 ∷ 3 ∷ 16 ∷ []) }
+    ∷ record { what = "z(wX)"; is = numbers (reduced 17 2 (dilate (root 17 2) z)); should = numbers (16 ∷ 15 ∷ []) }
+    ∷ record { what = "z(wX) × D"; is = numbers (reduced 17 5 (mulP (dilate (root 17 2) z) (polyD pre wire 1 1))); should = numbers (8 ∷ 9 ∷ 4 ∷ 2 ∷ 0 ∷ []) }
+    ∷ record { what = "their difference"; is = numbers (reduced 17 5 (stepPart 17 2 pre wire z 1 1)); should = numbers (6 ∷ 16 ∷ 12 ∷ 1 ∷ 16 ∷ []) }
+    ∷ record { what = "L"; is = numbers (polyL 17 2); should = numbers (9 ∷ 9 ∷ []) }
+    ∷ record { what = "(z - 1) × L"; is = numbers (reduced 17 3 (startPart 17 2 z)); should = numbers (16 ∷ 0 ∷ 1 ∷ []) }
+    ∷ record { what = "F"; is = numbers (reduced 17 5 F); should = numbers (8 ∷ 5 ∷ 11 ∷ 12 ∷ 15 ∷ []) }
+    ∷ record { what = "the remainder"; is = numbers (reduced 17 2 (remainderVanishing 2 3 F)); should = numbers (0 ∷ 0 ∷ []) }
+    ∷ []
+
+pub by-hand : All (λ r. r .is ≡ r .should) table
+unfolding tab powF first inverse reduced remainderVanishing generator root point multiplier tag interpolation permutation rowN rowD rowZ polyN polyD polyL gatePart stepPart startPart polyF prepared
+by-hand = refl & refl & refl & refl & refl & refl & refl & refl & refl & refl & refl & refl & refl & refl & refl & refl & refl & refl & refl & refl & tt

@@ -1,0 +1,2 @@
+-- The numbers of docs/READER.md.
+pub mod ByHand

@@ -1,0 +1,1 @@
+// Theory only: specs/ checks the numbers of docs/READER.md. There is no code.
