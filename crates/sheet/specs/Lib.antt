@@ -1,2 +1,9 @@
 -- Definitions, then theorems.
 pub mod Sheet
+pub mod Table
+pub mod Deciding
+pub mod Promises
+pub mod Written
+pub mod LaidLines
+pub mod ReadBack
+pub mod Worked

@@ -1,1 +1,70 @@
-// Theory only for now.
+// Reading a sheet (document 01, "The sheet"): why it is turned down, or p, n, l and its numbers laid out as they are lent.
+//
+// The public call is `read`. Lines count from 0 in the code, as in the definitions.
+ghost use mathlib.Core.Path.{_≡_};
+ghost use lib.ListN.{length};
+ghost use Rattle.sheet.specs.Promises.{Reads};
+use field::Answer;
+
+mod contents;
+mod first;
+mod laying;
+mod lines;
+mod reasons;
+
+// The answer of `read`: p, n and l are 0 if refused.
+pub struct SheetAnswer {
+    pub answer: Answer,
+    pub p: u32,
+    pub n: u32,
+    pub l: u32,
+}
+
+// Room for the table of a sheet's numbers: 8 words for each of 770 lines, which 256 rows and 256 public inputs have.
+fn blank() -> [u32; 6160]
+    ensures { λ r. ⌜ 6160 ≡ length r ⌝ }
+{
+    [0; 6160]
+}
+
+// The numbers of a sheet, laid out for 256 rows. All refusals are found before a lent word is written.
+pub fn read(
+    sheet: &[u8],
+    selectors: &mut [u32],
+    labels: &mut [u32],
+    witness: &mut [u32],
+    publics: &mut [u32],
+    challenges: &mut [u32],
+) -> SheetAnswer
+    ensures { λ r. ⌜ Reads (now (sheet .entry)) (now (selectors .entry)) (now (labels .entry)) (now (witness .entry)) (now (publics .entry)) (now (challenges .entry)) r (now (selectors .exit)) (now (labels .exit)) (now (witness .exit)) (now (publics .exit)) (now (challenges .exit)) ⌝ }
+{
+    let k = 6160;
+    let mut table = blank();
+    let found = reasons::decide(
+        sheet,
+        &mut table[..k],
+        selectors.len(),
+        labels.len(),
+        witness.len(),
+        publics.len(),
+        challenges.len(),
+    );
+    let answer = found.answer;
+    let number = answer.number;
+    if number == 0 {
+        let n = found.n as usize;
+        let l = found.l as usize;
+        laying::lay_out(
+            &table[..k],
+            n,
+            l,
+            selectors,
+            labels,
+            witness,
+            publics,
+            challenges,
+        );
+        return found;
+    }
+    found
+}

@@ -1,0 +1,6 @@
+pub mod BlockLaws
+pub mod LineLaws
+pub mod TableLaws
+pub mod ElementLaws
+pub mod Decided
+pub mod Reading

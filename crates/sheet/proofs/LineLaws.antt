@@ -1,0 +1,141 @@
+-- The lines of a sheet: how many numbers they have, the search for the first one out of form, and the table that is filled line by line.
+--
+-- due-circuit, due-witness, due-publics, due-challenges   how many numbers a line has, by where it stands
+-- due-some, due-most   at least one number, at most 8
+-- isBad s n l i        line i is missing or out of form
+-- bad-begins           the search for such a line, from line 1 on
+-- bad-le               what it finds is at most the number of lines
+-- line-is              a line that was read where line i starts, as line i
+-- second-start         where line 1 starts
+-- next-start           where the line behind line i starts
+-- part-long            the words that are lent for k numbers are k
+-- held-none, held-more   the table before the first line, and after one line more
+--
+-- Assumes nothing.
+use mathlib.Core.Path.{_≡_, refl, sym, ap, ap₂, _∙_}
+use mathlib.Core.Bool.{Bool, true, false, not, cond}
+use mathlib.Core.List.{List, _++_}
+use Prim.Native.Nat.{ℕ, _+_, _*_, _-_, _≤_, _<_}
+use native.Mathlib.Decide.{decLt}
+use native.Mathlib.Numerals.{add-one}
+use native.Mathlib.Omega.{arith}
+use lib.Dec.{eqb, leb}
+use lib.ListN.{length, getD, take, List·getD-append}
+use lib.Seq.{length-take-le, getD-take, getD-append-add}
+use borrow.Author.Tests.{ne-eqb, le-leb, lt-leb}
+use borrow.Rule.Slice.PartMut.{putMid, midOf, postOf, mid-len}
+use Rattle.algebra.specs.Lists.{tab}
+use Rattle.algebra.specs.Modular.{first}
+use Rattle.algebra.specs.Search.{first-is}
+use Rattle.algebra.specs.Tables.{length-tab, getD-tab}
+use Rattle.text.specs.Text.{numberAt, fieldAt, isLineAt}
+use Rattle.sheet.specs.Sheet.{fieldsDue, linesDue, lineAt, numberOf, badLine}
+use Rattle.sheet.specs.Table.{Held}
+
+module _ (n l i : ℕ) where
+  pub due-circuit : 0 < i → i ≤ n → fieldsDue n l i ≡ 8
+  unfolding fieldsDue
+  due-circuit g h = rw (ne-eqb i 0 (λ u. omega arith), le-leb i n h)
+
+  pub due-witness : n < i → i ≤ n + n → fieldsDue n l i ≡ 3
+  unfolding fieldsDue
+  due-witness g h = rw (ne-eqb i 0 (λ u. omega arith), lt-leb i n g, le-leb i (n + n) h)
+
+  pub due-publics : n + n < i → i ≤ n + n + l → fieldsDue n l i ≡ 1
+  unfolding fieldsDue
+  due-publics g h =
+      rw (ne-eqb i 0 (λ u. omega arith), lt-leb i n (omega arith), lt-leb i (n + n) g, le-leb i (n + n + l) h)
+
+  pub due-challenges : n + n + l < i → fieldsDue n l i ≡ 4
+  unfolding fieldsDue
+  due-challenges g =
+      rw (ne-eqb i 0 (λ u. omega arith), lt-leb i n (omega arith), lt-leb i (n + n) (omega arith), lt-leb i (n + n + l) g)
+
+either : (P : ℕ → Type 0) (b : Bool) {x y : ℕ} → P x → P y → P (cond b x y)
+either P true p q = p
+either P false p q = q
+
+pub due-some : (n l i : ℕ) → 0 < fieldsDue n l i
+unfolding fieldsDue
+due-some n l i =
+    either (λ m. 0 < m) (eqb i 0) (omega arith)
+    (either (λ m. 0 < m) (leb i n) (omega arith)
+    (either (λ m. 0 < m) (leb i (n + n)) (omega arith)
+    (either (λ m. 0 < m) (leb i (n + n + l)) (omega arith) (omega arith))))
+
+pub due-most : (n l i : ℕ) → fieldsDue n l i ≤ 8
+unfolding fieldsDue
+due-most n l i =
+    either (λ m. m ≤ 8) (eqb i 0) (omega arith)
+    (either (λ m. m ≤ 8) (leb i n) (omega arith)
+    (either (λ m. m ≤ 8) (leb i (n + n)) (omega arith)
+    (either (λ m. m ≤ 8) (leb i (n + n + l)) (omega arith) (omega arith))))
+
+abbrev pub isBad : List ℕ → ℕ → ℕ → ℕ → Bool
+isBad s n l i = not (isLineAt s (lineAt s n l i) (fieldsDue n l i))
+
+pub bad-begins : (s : List ℕ) (n l : ℕ) → badLine s n l ≡ first (isBad s n l) 1 (linesDue n l - 1)
+unfolding badLine
+bad-begins s n l = let q : n + n + l + 1 ≡ linesDue n l - 1 = omega arith in ap (first (isBad s n l) 1) q
+
+pub bad-le : (s : List ℕ) (n l : ℕ) → badLine s n l ≤ linesDue n l
+unfolding badLine
+bad-le s n l = omega (arith, first-is (isBad s n l) 1 (n + n + l + 1) .high)
+
+pub line-is : (s : List ℕ) (n l i at k : ℕ) (ok : Bool) → ok ≡ isLineAt s at k → at ≡ lineAt s n l i → k ≡ fieldsDue n l i
+    → ok ≡ isLineAt s (lineAt s n l i) (fieldsDue n l i)
+line-is s n l i at k ok e f g = e ∙ ap₂ (isLineAt s) f g
+
+pub second-start : (s : List ℕ) (n l : ℕ) → fieldAt s 0 3 ≡ lineAt s n l 1
+unfolding lineAt fieldsDue
+second-start s n l = refl
+
+pub next-start : (s : List ℕ) (n l i at k next : ℕ) → next ≡ fieldAt s at k → at ≡ lineAt s n l i → k ≡ fieldsDue n l i → next ≡ lineAt s n l (i + 1)
+unfolding lineAt
+next-start s n l i at k next e f g = e ∙ ap₂ (fieldAt s) f g ∙ ap (lineAt s n l) (sym (add-one i))
+
+pub part-long : (a k : ℕ) (t : List ℕ) → a + k ≤ length t → length (midOf a (a + k - a) t) ≡ k
+part-long a k t room = let q : a + k - a ≡ k = omega arith in mid-len a (a + k) t room ∙ q
+
+pub held-none : (s : List ℕ) (n l : ℕ) (t : List ℕ) → Held s n l 1 t
+held-none s n l t = record { number = λ i j g h f. absurd (omega arith) }
+
+-- line i is read into its 8 words
+module _ (s : List ℕ) (n l i k at : ℕ) (t ys : List ℕ) (few : k ≡ fieldsDue n l i) (starts : at ≡ lineAt s n l i) (room : 8 * i + k ≤ length t)
+    (is : ys ≡ tab (λ j. numberAt s (fieldAt s at j)) (length (midOf (8 * i) (8 * i + k - 8 * i) t))) where
+  abbrev after : List ℕ
+  after = putMid (8 * i) (8 * i + k - 8 * i) t ys
+
+  front : length (take (8 * i) t) ≡ 8 * i
+  front = length-take-le (8 * i) t (omega arith)
+
+  long : length (midOf (8 * i) (8 * i + k - 8 * i) t) ≡ k
+  long = part-long (8 * i) k t room
+
+  ys-long : length ys ≡ k
+  ys-long = ap length is ∙ length-tab (λ j. numberAt s (fieldAt s at j)) (length (midOf (8 * i) (8 * i + k - 8 * i) t)) ∙ long
+
+  before : (m : ℕ) → m < 8 * i → getD after m 0 ≡ getD t m 0
+  before m h =
+      List·getD-append (take (8 * i) t) (ys ++ postOf (8 * i) (8 * i + k - 8 * i) t) 0 m (omega (arith, front))
+      ∙ getD-take (8 * i) t m 0 h
+
+  here : (j : ℕ) → j < k → getD after (8 * i + j) 0 ≡ numberOf s n l i j
+  unfolding numberOf
+  here j h =
+      ap (λ (m : ℕ). getD after (m + j) 0) (sym front)
+      ∙ getD-append-add (take (8 * i) t) (ys ++ postOf (8 * i) (8 * i + k - 8 * i) t) j 0
+      ∙ List·getD-append ys (postOf (8 * i) (8 * i + k - 8 * i) t) 0 j (omega (arith, ys-long))
+      ∙ ap (λ (l : List ℕ). getD l j 0) is
+      ∙ getD-tab (λ j. numberAt s (fieldAt s at j)) (length (midOf (8 * i) (8 * i + k - 8 * i) t)) j (omega (arith, long))
+      ∙ ap (λ (a : ℕ). numberAt s (fieldAt s a j)) starts
+
+  pub held-more : Held s n l i t → Held s n l (i + 1) after
+  held-more held = record { number = λ m j g h f. go m j g h f (decLt m i) }
+    where
+      go : (m j : ℕ) → 0 < m → m < i + 1 → j < fieldsDue n l m → Dec (m < i) → getD after (8 * m + j) 0 ≡ numberOf s n l m j
+      go m j g h f (yes u) = before (8 * m + j) (omega (arith, due-most n l m)) ∙ held .number m j g u f
+      go m j g h f (no u) =
+          let q : m ≡ i = omega arith in
+          let w : j < fieldsDue n l i = rw (← q) f in
+          ap (λ (m : ℕ). getD after (8 * m + j) 0) q ∙ here j (omega (arith, few, w)) ∙ ap (λ (m : ℕ). numberOf s n l m j) (sym q)

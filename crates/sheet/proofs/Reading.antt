@@ -1,0 +1,76 @@
+-- From the decision and the blocks that are laid out to what `read` promises.
+--
+-- buffers          the lent buffers have the right lengths, where no reason applies
+-- ready            the table is full, for the n and l that were found
+-- read-accepted    no reason applies, and the blocks of the table are laid out
+-- read-refused     a reason applies, and nothing is written
+--
+-- Assumes nothing.
+use mathlib.Core.Path.{_≡_, sym, ap, _∙_}
+use mathlib.Core.List.{List}
+use Prim.Native.Nat.{ℕ, _*_}
+use lib.ListN.{length}
+use borrow.Author.Tests.{eq-eqb, ne-eqb}
+use Rattle.sheet.specs.declared.SheetAnswer.{SheetAnswer}
+use Rattle.sheet.specs.Sheet.{sheetN, sheetL, onSelectors, onLabels, onWitness, onPublics, onChallenges}
+use Rattle.sheet.specs.Table.{Full, Room, Laid, selectorsIn, labelsIn, witnessIn, publicsIn, challengesIn}
+use Rattle.sheet.specs.Deciding.{Decides}
+use Rattle.sheet.specs.Promises.{Reads}
+use Rattle.sheet.proofs.BlockLaws.{padded-same}
+use Rattle.sheet.proofs.TableLaws.{selectors-same, labels-same, witness-same, publics-same, challenges-same}
+use Rattle.sheet.proofs.Decided.{full, roomy}
+
+module _ (s selectors labels witness publics challenges : List ℕ) (r : SheetAnswer) (t : List ℕ)
+    (d : Decides s (length selectors) (length labels) (length witness) (length publics) (length challenges) r t) where
+  module _ (zero : r .answer .number ≡ 0) where
+    rows : r .n ≡ sheetN s
+    rows = d .n-is ∙ rw (eq-eqb (r .answer .number) 0 zero)
+
+    inputs : r .l ≡ sheetL s
+    inputs = d .l-is ∙ rw (eq-eqb (r .answer .number) 0 zero)
+
+    pub buffers : Room selectors labels witness publics challenges
+    buffers = roomy s selectors labels witness publics challenges (ap (λ a. a .number) (sym (d .answer)) ∙ zero)
+
+    module _ (long : length t ≡ 6160) where
+      filled : Full (sheetN s) (sheetL s) t
+      filled = full s selectors labels witness publics challenges (ap (λ a. a .number) (sym (d .answer)) ∙ zero) t long
+
+      pub ready : (t' : List ℕ) → t' ≡ t → Full (r .n) (r .l) t'
+      ready t' e = rw (e, rows, inputs) filled
+
+      pub read-accepted : (t' : List ℕ) → t' ≡ t → (selectors' labels' witness' publics' challenges' : List ℕ)
+          → Laid (r .n) (r .l) t' selectors' labels' witness' publics' challenges'
+          → Reads s selectors labels witness publics challenges r selectors' labels' witness' publics' challenges'
+      read-accepted t' e selectors' labels' witness' publics' challenges' laid =
+          let same : Laid (sheetN s) (sheetL s) t selectors' labels' witness' publics' challenges' = rw (← e, ← rows, ← inputs) laid in
+          let accepted = eq-eqb (r .answer .number) 0 zero in
+          let held = d .held zero in
+          let n = sheetN s in
+          let l = sheetL s in
+          record {
+            answer = d .answer;
+            p-is = d .p-is;
+            n-is = d .n-is;
+            l-is = d .l-is;
+            selectors-laid = rw accepted (same .selectors-laid ∙ padded-same 1280 (5 * n) (selectorsIn t n) (onSelectors s n l) (selectors-same s n l t filled held));
+            labels-laid = rw accepted (same .labels-laid ∙ padded-same 768 (3 * n) (labelsIn t n) (onLabels s n l) (labels-same s n l t filled held));
+            witness-laid = rw accepted (same .witness-laid ∙ padded-same 768 (3 * n) (witnessIn t n) (onWitness s n l) (witness-same s n l t filled held));
+            publics-laid = rw accepted (same .publics-laid ∙ padded-same 256 l (publicsIn t n) (onPublics s n l) (publics-same s n l t filled held));
+            challenges-laid = rw accepted (same .challenges-laid ∙ padded-same 4 4 (challengesIn t n l) (onChallenges s n l) (challenges-same s n l t filled held));
+          }
+
+  pub read-refused : (r .answer .number ≡ 0 → ⊥) → Reads s selectors labels witness publics challenges r selectors labels witness publics challenges
+  read-refused h =
+      let refused = ne-eqb (r .answer .number) 0 h in
+      record {
+        answer = d .answer;
+        p-is = d .p-is;
+        n-is = d .n-is;
+        l-is = d .l-is;
+        selectors-laid = rw refused;
+        labels-laid = rw refused;
+        witness-laid = rw refused;
+        publics-laid = rw refused;
+        challenges-laid = rw refused;
+      }

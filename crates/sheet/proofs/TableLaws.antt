@@ -1,0 +1,69 @@
+-- A table that holds all lines of a sheet has its numbers, as they are lent.
+--
+-- selectors-same, labels-same, witness-same, publics-same, challenges-same   number k of each buffer
+-- elements-same, labels-list-same   the elements end to end, and the labels
+--
+-- Assumes nothing.
+use mathlib.Core.Path.{_≡_, ap₂, _∙_}
+use mathlib.Core.List.{List, _++_}
+use Prim.Native.Nat.{ℕ, suc, _+_, _*_, _/_, _%_, _<_}
+use native.Mathlib.Nat.{mod-lt, div-lt-iff-lt-mul, mod-eq-of-lt, div-eq-of-lt, mod-one, div-one}
+use native.Mathlib.Omega.{arith}
+use lib.ListN.{getD}
+use Rattle.algebra.specs.Lists.{tab}
+use Rattle.algebra.specs.Tables.{tab-ext}
+use Rattle.sheet.specs.Sheet.{fieldsDue, linesDue, numberOf, onSelectors, onLabels, onWitness, onPublics, onChallenges, sheetElements}
+use Rattle.sheet.specs.Table.{Full, Held, selectorsIn, labelsIn, witnessIn, publicsIn, challengesIn, tableElements}
+use Rattle.sheet.proofs.LineLaws.{due-circuit, due-witness, due-publics, due-challenges}
+
+module _ (s : List ℕ) (n l : ℕ) (t : List ℕ) (full : Full n l t) (held : Held s n l (linesDue n l) t) where
+  row : (k : ℕ) → k % n < n
+  row k = mod-lt k (full .some)
+
+  column : (k c : ℕ) → k < c * n → k / n < c
+  column k c h = div-lt-iff-lt-mul {x = k} {y = c} (full .some) .1 h
+
+  -- field j of line i, where that is field j' of line i'
+  word : (i j i' j' : ℕ) → i ≡ i' → j ≡ j' → 0 < i → i < linesDue n l → j < fieldsDue n l i → getD t (8 * i + j) 0 ≡ numberOf s n l i' j'
+  word i j i' j' p q g h f = held .number i j g h f ∙ ap₂ (numberOf s n l) p q
+
+  pub selectors-same : (k : ℕ) → k < 5 * n → selectorsIn t n k ≡ onSelectors s n l k
+  selectors-same k h =
+      let a = row k in
+      let b = column k 5 h in
+      word (1 + k % n) (0 + k / n) (suc (k % n)) (k / n) (omega arith) (omega arith) (omega arith) (omega arith) (omega (arith, due-circuit n l (1 + k % n) (omega arith) (omega arith)))
+
+  pub labels-same : (k : ℕ) → k < 3 * n → labelsIn t n k ≡ onLabels s n l k
+  labels-same k h =
+      let a = row k in
+      let b = column k 3 h in
+      word (1 + k % n) (5 + k / n) (suc (k % n)) (5 + k / n) (omega arith) (omega arith) (omega arith) (omega arith) (omega (arith, due-circuit n l (1 + k % n) (omega arith) (omega arith)))
+
+  pub witness-same : (k : ℕ) → k < 3 * n → witnessIn t n k ≡ onWitness s n l k
+  witness-same k h =
+      let a = row k in
+      let b = column k 3 h in
+      word (n + 1 + k % n) (0 + k / n) (n + suc (k % n)) (k / n) (omega arith) (omega arith) (omega arith) (omega arith) (omega (arith, due-witness n l (n + 1 + k % n) (omega arith) (omega arith)))
+
+  pub publics-same : (k : ℕ) → k < l → publicsIn t n k ≡ onPublics s n l k
+  publics-same k h =
+      let below : k < n = omega (arith, full .publics) in
+      let a : k % n ≡ k = mod-eq-of-lt below in
+      let b : k / n ≡ 0 = div-eq-of-lt below in
+      word (n + n + 1 + k % n) (0 + k / n) (n + n + suc k) 0 (omega arith) (omega arith) (omega arith) (omega arith) (omega (arith, due-publics n l (n + n + 1 + k % n) (omega arith) (omega arith)))
+
+  pub challenges-same : (k : ℕ) → k < 4 → challengesIn t n l k ≡ onChallenges s n l k
+  challenges-same k h =
+      let a : k % 1 ≡ 0 = mod-one k in
+      let b : k / 1 ≡ k = div-one k in
+      word (n + n + l + 1 + k % 1) (0 + k / 1) (n + n + l + 1) k (omega arith) (omega arith) (omega arith) (omega arith) (omega (arith, due-challenges n l (n + n + l + 1 + k % 1) (omega arith)))
+
+  pub elements-same : tableElements n l t ≡ sheetElements s n l
+  elements-same =
+      ap₂ (λ (a b : List ℕ). a ++ b) (tab-ext (selectorsIn t n) (onSelectors s n l) (5 * n) selectors-same)
+      (ap₂ (λ (a b : List ℕ). a ++ b) (tab-ext (witnessIn t n) (onWitness s n l) (3 * n) witness-same)
+      (ap₂ (λ (a b : List ℕ). a ++ b) (tab-ext (publicsIn t n) (onPublics s n l) l publics-same)
+      (tab-ext (challengesIn t n l) (onChallenges s n l) 4 challenges-same)))
+
+  pub labels-list-same : tab (labelsIn t n) (3 * n) ≡ tab (onLabels s n l) (3 * n)
+  labels-list-same = tab-ext (labelsIn t n) (onLabels s n l) (3 * n) labels-same

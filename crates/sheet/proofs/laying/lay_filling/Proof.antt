@@ -1,0 +1,70 @@
+-- `sheet::laying::lay_filling` meets its contract: three blocks of the table are laid out. Assumes nothing.
+use mathlib.Core.Path.{_∙_}
+use native.Mathlib.Omega.{arith}
+use borrow.Author.Needs.{needs}
+use Rattle.sheet.proofs.BlockLaws.{witness-fit, publics-fit, challenges-fit}
+use Rattle.sheet.proofs.laying.lay_filling.Statement.{statement}
+use Rattle.sheet.proofs.laying.lay_filling.Tie as tie
+
+add-lay : tie.Need-add-lay
+add-lay c = search needs
+
+mul-lay : tie.Need-mul-lay
+mul-lay c = search needs
+
+lay-requires : tie.Need-lay-requires
+lay-requires c κs = (witness-fit _ _ _ (c .before .before .before .before .before .pre .0), omega (arith, c .before .before .before .before .before .pre .0 .few))
+
+add-lay-2 : tie.Need-add-lay-2
+add-lay-2 c = search needs
+
+add-lay-3 : tie.Need-add-lay-3
+add-lay-3 c = search needs
+
+lay-requires-2 : tie.Need-lay-requires-2
+lay-requires-2 c κs = (publics-fit _ _ _ (c .before .before .before .before .before .before .before .before .before .pre .0), omega (arith, c .before .before .before .before .before .before .before .before .before .pre .0 .few, c .before .before .before .before .before .before .before .before .before .pre .0 .publics))
+
+add-lay-4 : tie.Need-add-lay-4
+add-lay-4 c = search needs
+
+add-lay-5 : tie.Need-add-lay-5
+add-lay-5 c = search needs
+
+add-lay-6 : tie.Need-add-lay-6
+add-lay-6 c = search needs
+
+lay-requires-3 : tie.Need-lay-requires-3
+lay-requires-3 c κs = (challenges-fit _ _ _ (c .before .before .before .before .before .before .before .before .before .before .before .before .before .pre .0), omega arith)
+
+same-length : tie.Need-same-length
+same-length c = search needs
+
+same-length-2 : tie.Need-same-length-2
+same-length-2 c = search needs
+
+same-length-3 : tie.Need-same-length-3
+same-length-3 c = search needs
+
+returns : tie.Need-returns
+returns c =
+    let s = c .before .before .before .before .before .before .before .before .before .before .before .before .before .before .before .before in
+    (c .before .before .before .before .before .before .before .before .before .before .lay .ensures ∙ rw (s .pre .1), (c .before .before .before .before .before .before .lay2 .ensures ∙ rw (s .pre .2), c .before .before .lay3 .ensures ∙ rw (s .pre .3)))
+
+pub lay-filling-spec : {M : Type 1} → statement M
+lay-filling-spec =
+    tie.close
+    (tie.spec
+    add-lay
+    mul-lay
+    lay-requires
+    add-lay-2
+    add-lay-3
+    lay-requires-2
+    add-lay-4
+    add-lay-5
+    add-lay-6
+    lay-requires-3
+    same-length
+    same-length-2
+    same-length-3
+    returns)

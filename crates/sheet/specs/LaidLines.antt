@@ -1,0 +1,109 @@
+-- Lines laid end to end, read one after the other.
+--
+-- laid-split     lists laid end to end, the first m and then the rest
+-- laid-same      lists that agree are laid the same
+-- laid-one       one list
+-- LINES OF A TEXT: line i has the numbers `line i`, which are below 2^32, and as many as a sheet of n and l has there
+-- starts         where line i starts
+-- in-form        line i is in form
+-- reads          its numbers are those that were written
+-- no-bad         no line is out of form
+-- no-extra       nothing stands behind the last
+--
+-- Assumes nothing.
+use mathlib.Core.Path.{_≡_, refl, sym, ap, ap₂, subst, _∙_}
+use mathlib.Core.Bool.{Bool, true, false, not}
+use mathlib.Core.List.{List, _++_, append-assoc, append-nil}
+use Prim.Native.Nat.{ℕ, zero, suc, _+_, _-_, _≤_, _<_}
+use native.Mathlib.Decide.{decLt}
+use native.Mathlib.Omega.{arith}
+use lib.ListN.{length, getD, length-append}
+use borrow.Author.Tests.{le-ltb}
+use Rattle.algebra.specs.Modular.{first}
+use Rattle.algebra.specs.Search.{First, first-is}
+use Rattle.transform.specs.Parts.{laid}
+use Rattle.text.specs.Text.{numberAt, fieldAt, isLineAt, lineOf}
+use Rattle.text.specs.ReadBack.{line-is, line-ends, line-numbers}
+use Rattle.sheet.specs.Sheet.{fieldsDue, linesDue, lineAt, numberOf, badLine, isExtra}
+use Rattle.sheet.specs.Written.{Small}
+
+pub laid-split : (f : ℕ → List ℕ) (m k : ℕ) → laid f (m + k) ≡ laid f m ++ laid (λ i. f (m + i)) k
+unfolding laid
+laid-split f m zero = let q : m + 0 ≡ m = omega arith in ap (laid f) q ∙ sym (append-nil (laid f m))
+laid-split f m (suc k) =
+    let q : m + suc k ≡ suc (m + k) = omega arith in
+    ap (laid f) q
+    ∙ ap (λ (l : List ℕ). l ++ f (m + k)) (laid-split f m k) ∙ append-assoc (laid f m) (laid (λ i. f (m + i)) k) (f (m + k))
+
+pub laid-same : (f g : ℕ → List ℕ) (m : ℕ) → ((i : ℕ) → i < m → f i ≡ g i) → laid f m ≡ laid g m
+unfolding laid
+laid-same f g zero h = refl
+laid-same f g (suc m) h = ap₂ (λ (a b : List ℕ). a ++ b) (laid-same f g m (λ i k. h i (omega arith))) (h m (omega arith))
+
+pub laid-one : (f : ℕ → List ℕ) → laid f 1 ≡ f 0
+unfolding laid
+laid-one f = refl
+
+clash : true ≡ false → ⊥
+clash u = let z : _≡_ {A = ℕ} 0 1 = cc in omega arith
+
+module _ (n l : ℕ) (line : ℕ → List ℕ) (small : (i : ℕ) → Small (line i)) (long : (i : ℕ) → length (line i) ≡ fieldsDue n l i)
+    (some : (i : ℕ) → 0 < fieldsDue n l i) where
+  abbrev bytes : ℕ → List ℕ
+  bytes m = laid (λ i. lineOf (line i)) m
+
+  -- the text up to line i, line i, and what follows
+  apart : (i k : ℕ) → bytes (i + suc k) ≡ bytes i ++ (lineOf (line i) ++ laid (λ j. lineOf (line (i + (1 + j)))) k)
+  apart i k =
+      let q : suc k ≡ 1 + k = omega arith in
+      ap (λ (m : ℕ). bytes (i + m)) q
+      ∙ laid-split (λ i. lineOf (line i)) i (1 + k)
+      ∙ ap (λ (b : List ℕ). bytes i ++ b)
+      (laid-split (λ j. lineOf (line (i + j))) 1 k
+      ∙ ap (λ (b : List ℕ). b ++ laid (λ j. lineOf (line (i + (1 + j)))) k) (laid-one (λ j. lineOf (line (i + j))) ∙ ap (λ (m : ℕ). lineOf (line m)) (omega arith)))
+
+  module _ (m : ℕ) where
+    whole : (i : ℕ) → i < m → bytes m ≡ bytes i ++ (lineOf (line i) ++ laid (λ j. lineOf (line (i + (1 + j)))) (m - suc i))
+    whole i h = let q : m ≡ i + suc (m - suc i) = omega arith in ap bytes q ∙ apart i (m - suc i)
+
+    pub starts : (i : ℕ) → i ≤ m → lineAt (bytes m) n l i ≡ length (bytes i)
+    unfolding lineAt laid
+    starts zero h = refl
+    starts (suc i) h =
+        ap₂ (fieldAt (bytes m)) (starts i (omega arith)) (sym (long i))
+        ∙ subst (λ (s : List ℕ). fieldAt s (length (bytes i)) (length (line i)) ≡ length (bytes i) + length (lineOf (line i))) (sym (whole i h))
+        (line-ends (bytes i) (line i) (laid (λ j. lineOf (line (i + (1 + j)))) (m - suc i)) (omega (arith, long i, some i)) (small i))
+        ∙ sym (length-append (bytes i) (lineOf (line i)))
+
+    pub in-form : (i : ℕ) → i < m → isLineAt (bytes m) (lineAt (bytes m) n l i) (fieldsDue n l i) ≡ true
+    in-form i h =
+        ap₂ (isLineAt (bytes m)) (starts i (omega arith)) (sym (long i))
+        ∙ subst (λ (s : List ℕ). isLineAt s (length (bytes i)) (length (line i)) ≡ true) (sym (whole i h))
+        (line-is (bytes i) (line i) (laid (λ j. lineOf (line (i + (1 + j)))) (m - suc i)) (omega (arith, long i, some i)) (small i))
+
+    pub reads : (i j : ℕ) → i < m → j < fieldsDue n l i → numberOf (bytes m) n l i j ≡ getD (line i) j 0
+    unfolding numberOf
+    reads i j h g =
+        ap (λ (a : ℕ). numberAt (bytes m) (fieldAt (bytes m) a j)) (starts i (omega arith))
+        ∙ subst (λ (s : List ℕ). numberAt s (fieldAt s (length (bytes i)) j) ≡ getD (line i) j 0) (sym (whole i h))
+        (line-numbers (bytes i) (line i) (laid (λ j. lineOf (line (i + (1 + j)))) (m - suc i)) (omega (arith, long i, some i)) (small i) j (omega (arith, long i)))
+
+  pub no-bad : badLine (bytes (linesDue n l)) n l ≡ linesDue n l
+  unfolding badLine
+  no-bad = go (decLt (first test 1 (n + n + l + 1)) (linesDue n l))
+    where
+      test : ℕ → Bool
+      test i = not (isLineAt (bytes (linesDue n l)) (lineAt (bytes (linesDue n l)) n l i) (fieldsDue n l i))
+
+      found : First test 1 (n + n + l + 1) (first test 1 (n + n + l + 1))
+      found = first-is test 1 (n + n + l + 1)
+
+      go : Dec (first test 1 (n + n + l + 1) < linesDue n l) → first test 1 (n + n + l + 1) ≡ linesDue n l
+      go (yes h) =
+          absurd (clash (sym (found .hit (omega arith)) ∙ ap not (in-form (linesDue n l) (first test 1 (n + n + l + 1)) h)))
+      go (no h) = omega (arith, found .high)
+
+  pub no-extra : isExtra (bytes (linesDue n l)) n l ≡ false
+  no-extra =
+      le-ltb (lineAt (bytes (linesDue n l)) n l (linesDue n l)) (length (bytes (linesDue n l)))
+      (omega (arith, starts (linesDue n l) (linesDue n l) (omega arith)))

@@ -1,0 +1,278 @@
+-- What is written is read back: the sheet written from numbers below 2^32, as many as are lent for its n and l, is a sheet in form, and its
+-- reading gives those numbers.
+--
+-- SheetBack            what is read off the text s
+-- sheet-back           THE THEOREM, for the text of the numbers
+-- sheetLine            the numbers of line i of that text
+-- Taken                what the reasons ask of the numbers: p and n are admissible on a sheet, l is at most n, elements are below p, labels below 3n
+-- sheet-taken          a sheet that reads so, of at most 65,536 bytes, is accepted, where the lent buffers have the lengths that 256 rows need
+--
+-- Assumes nothing.
+use mathlib.Core.Path.{_≡_, refl, sym, ap, ap₂, subst, _∙_}
+use mathlib.Core.Bool.{Bool, true, false, cond}
+use mathlib.Core.List.{List, [], _∷_, _++_}
+use Prim.Native.Nat.{ℕ, zero, suc, _+_, _*_, _-_, _/_, _%_, _≤_, _<_}
+use native.Mathlib.Nat.{mod-lt, div-lt-iff-lt-mul, div-add-mod'}
+use native.Mathlib.Omega.{arith}
+use lib.Dec.{eqb, leb}
+use lib.ListN.{length, getD, length-append, List·getD-append}
+use lib.Seq.{getD-append-add}
+use borrow.Author.Tests.{ne-eqb, le-leb, lt-leb, le-ltb}
+use Rattle.algebra.specs.Lists.{tab, All}
+use Rattle.algebra.specs.Tables.{length-tab, getD-tab, tab-ext, tab-getD, all-append, all-tab}
+use Rattle.field.specs.Fields.{isField, isRows}
+use Rattle.field.specs.Reasons.{answerOf}
+use Rattle.field.specs.ReasonLaws.{elements-none}
+use Rattle.transform.specs.Parts.{laid}
+use Rattle.text.specs.Text.{isLineAt, lineOf}
+use Rattle.sheet.specs.Sheet.{fieldsDue, linesDue, lineAt, numberOf, sheetP, sheetN, sheetL, badLine, isExtra, onSelectors, onLabels, onWitness, onPublics, onChallenges, sheetElements, sheetReasons}
+use Rattle.sheet.specs.Written.{column, circuitLine, witnessLine, publicLine, sheetText, Small, Right}
+use Rattle.sheet.specs.LaidLines.{laid-split, laid-same, laid-one, in-form, reads, no-bad, no-extra}
+
+pub record SheetBack (s : List ℕ) (p n l : ℕ) (selectors labels witness publics challenges : List ℕ) : Type 0 where
+  pub in-form : isLineAt s 0 3 ≡ true
+  pub p-is : sheetP s ≡ p
+  pub n-is : sheetN s ≡ n
+  pub l-is : sheetL s ≡ l
+  pub none-bad : badLine s n l ≡ linesDue n l
+  pub none-extra : isExtra s n l ≡ false
+  pub selectors-are : tab (onSelectors s n l) (5 * n) ≡ selectors
+  pub labels-are : tab (onLabels s n l) (3 * n) ≡ labels
+  pub witness-is : tab (onWitness s n l) (3 * n) ≡ witness
+  pub publics-are : tab (onPublics s n l) l ≡ publics
+  pub challenges-are : tab (onChallenges s n l) 4 ≡ challenges
+
+-- a word of a list of numbers below 2^32, and 0 behind its end
+word-small : (xs : List ℕ) (k : ℕ) → Small xs → getD xs k 0 < 4294967296
+word-small [] k a = omega arith
+word-small (x ∷ xs) zero a = a .0
+word-small (x ∷ xs) (suc k) a = word-small xs k (a .1)
+
+-- a fact of both of two lists is a fact of the one that a test picks
+picked : (P : List ℕ → Type 0) (b : Bool) {x y : List ℕ} → P x → P y → P (cond b x y)
+picked P true p q = p
+picked P false p q = q
+
+length-pick : (b : Bool) (x y : List ℕ) (k m : ℕ) → length x ≡ k → length y ≡ m → length (cond b x y) ≡ cond b k m
+length-pick true x y k m p q = p
+length-pick false x y k m p q = q
+
+some-due : (n l i : ℕ) → 0 < fieldsDue n l i
+unfolding fieldsDue
+some-due n l i =
+    either (eqb i 0) (omega arith)
+    (either (leb i n) (omega arith) (either (leb i (n + n)) (omega arith) (either (leb i (n + n + l)) (omega arith) (omega arith))))
+  where
+    either : (b : Bool) {x y : ℕ} → 0 < x → 0 < y → 0 < cond b x y
+    either true p q = p
+    either false p q = q
+
+module _ (p n l : ℕ) (selectors labels witness publics challenges : List ℕ) where
+  unfoldable pub sheetLine : ℕ → List ℕ
+  sheetLine i =
+      cond (eqb i 0) (p ∷ n ∷ l ∷ [])
+      (cond (leb i n) (circuitLine n selectors labels (i - 1))
+      (cond (leb i (n + n)) (witnessLine n witness (i - (n + 1)))
+      (cond (leb i (n + n + l)) (publicLine publics (i - (n + n + 1))) challenges)))
+
+  line-first : sheetLine 0 ≡ p ∷ n ∷ l ∷ []
+  unfolding sheetLine
+  line-first = refl
+
+  line-circuit : (i row : ℕ) → i ≡ 1 + row → row < n → sheetLine i ≡ circuitLine n selectors labels row
+  unfolding sheetLine
+  line-circuit i row e h =
+      let q : i - 1 ≡ row = omega arith in
+      rw (ne-eqb i 0 (λ u. omega arith), le-leb i n (omega arith), q)
+
+  line-witness : (i row : ℕ) → i ≡ n + 1 + row → row < n → sheetLine i ≡ witnessLine n witness row
+  unfolding sheetLine
+  line-witness i row e h =
+      let q : i - (n + 1) ≡ row = omega arith in
+      rw (ne-eqb i 0 (λ u. omega arith), lt-leb i n (omega arith), le-leb i (n + n) (omega arith), q)
+
+  line-public : (i row : ℕ) → i ≡ n + n + 1 + row → row < l → sheetLine i ≡ publicLine publics row
+  unfolding sheetLine
+  line-public i row e h =
+      let q : i - (n + n + 1) ≡ row = omega arith in
+      rw (ne-eqb i 0 (λ u. omega arith), lt-leb i n (omega arith), lt-leb i (n + n) (omega arith), le-leb i (n + n + l) (omega arith), q)
+
+  line-last : (i : ℕ) → i ≡ n + n + l + 1 → sheetLine i ≡ challenges
+  unfolding sheetLine
+  line-last i e =
+      rw (ne-eqb i 0 (λ u. omega arith), lt-leb i n (omega arith), lt-leb i (n + n) (omega arith), lt-leb i (n + n + l) (omega arith))
+
+  -- the text is the lines, laid end to end
+  text-lines : sheetText p n l selectors labels witness publics challenges ≡ laid (λ i. lineOf (sheetLine i)) (linesDue n l)
+  text-lines =
+      let q : linesDue n l ≡ 1 + (n + (n + (l + 1))) = omega arith in
+      sym (ap (laid f) q
+      ∙ laid-split f 1 (n + (n + (l + 1)))
+      ∙ ap₂ (λ (a b : List ℕ). a ++ b) (laid-one f ∙ ap lineOf line-first)
+      (laid-split (λ i. f (1 + i)) n (n + (l + 1))
+      ∙ ap₂ (λ (a b : List ℕ). a ++ b) (laid-same _ _ n (λ i h. ap lineOf (line-circuit (1 + i) i refl h)))
+      (laid-split (λ i. f (1 + (n + i))) n (l + 1)
+      ∙ ap₂ (λ (a b : List ℕ). a ++ b) (laid-same _ _ n (λ i h. ap lineOf (line-witness (1 + (n + i)) i (omega arith) h)))
+      (laid-split (λ i. f (1 + (n + (n + i)))) l 1
+      ∙ ap₂ (λ (a b : List ℕ). a ++ b) (laid-same _ _ l (λ i h. ap lineOf (line-public (1 + (n + (n + i))) i (omega arith) h)))
+      (laid-one (λ i. f (1 + (n + (n + (l + i))))) ∙ ap lineOf (line-last (1 + (n + (n + (l + 0)))) (omega arith)))))))
+    where
+      f : ℕ → List ℕ
+      f i = lineOf (sheetLine i)
+
+  module _ (right : Right p n l selectors labels witness publics challenges) where
+    line-small : (i : ℕ) → Small (sheetLine i)
+    unfolding sheetLine
+    line-small i =
+        picked Small (eqb i 0) (right .first-small)
+        (picked Small (leb i n)
+        (all-append (λ (x : ℕ). x < 4294967296) (tab (column n selectors (i - 1)) 5) (tab (column n labels (i - 1)) 3)
+        (all-tab (λ (x : ℕ). x < 4294967296) (column n selectors (i - 1)) 5 (λ c h. word-small selectors (c * n + (i - 1)) (right .selectors-small)))
+        (all-tab (λ (x : ℕ). x < 4294967296) (column n labels (i - 1)) 3 (λ c h. word-small labels (c * n + (i - 1)) (right .labels-small))))
+        (picked Small (leb i (n + n))
+        (all-tab (λ (x : ℕ). x < 4294967296) (column n witness (i - (n + 1))) 3 (λ c h. word-small witness (c * n + (i - (n + 1))) (right .witness-small)))
+        (picked Small (leb i (n + n + l)) (word-small publics (i - (n + n + 1)) (right .publics-small), tt) (right .challenges-small))))
+
+    line-long : (i : ℕ) → length (sheetLine i) ≡ fieldsDue n l i
+    unfolding sheetLine fieldsDue
+    line-long i =
+        length-pick (eqb i 0) _ _ _ _ refl
+        (length-pick (leb i n) _ _ _ _ (length-append (tab (column n selectors (i - 1)) 5) (tab (column n labels (i - 1)) 3) ∙ simp length-tab)
+        (length-pick (leb i (n + n)) _ _ _ _ (length-tab (column n witness (i - (n + 1))) 3)
+        (length-pick (leb i (n + n + l)) _ _ _ _ refl (right .challenges-long))))
+
+    -- number j of line i, in the text as lines
+    abbrev lines : List ℕ
+    lines = laid (λ i. lineOf (sheetLine i)) (linesDue n l)
+
+    number : (i j : ℕ) (vs : List ℕ) → i < linesDue n l → sheetLine i ≡ vs → j < length vs → numberOf lines n l i j ≡ getD vs j 0
+    number i j vs h e g =
+        reads n l sheetLine line-small line-long (some-due n l) (linesDue n l) i j h (omega (arith, line-long i, ap length e))
+        ∙ ap (λ (xs : List ℕ). getD xs j 0) e
+
+    back-column : (xs : List ℕ) (k : ℕ) → column n xs (k % n) (k / n) ≡ getD xs k 0
+    back-column xs k = ap (λ (m : ℕ). getD xs m 0) (div-add-mod' k n)
+
+    rows : (k c : ℕ) → k < c * n → 0 < n
+    rows k c h = go n h
+      where
+        go : (n : ℕ) → k < c * n → 0 < n
+        go zero h = absurd (omega arith)
+        go (suc n) h = omega arith
+
+    row : (k c : ℕ) → k < c * n → k % n < n
+    row k c h = mod-lt k (rows k c h)
+
+    col : (k c : ℕ) → k < c * n → k / n < c
+    col k c h = div-lt-iff-lt-mul {x = k} {y = c} (rows k c h) .1 h
+
+    circuit-long : (i : ℕ) → length (circuitLine n selectors labels i) ≡ 8
+    circuit-long i = length-append (tab (column n selectors i) 5) (tab (column n labels i) 3) ∙ simp length-tab
+
+    selectors-back : (k : ℕ) → k < 5 * n → onSelectors lines n l k ≡ getD selectors k 0
+    selectors-back k h =
+        let a = row k 5 h in
+        let b = col k 5 h in
+        number (suc (k % n)) (k / n) (circuitLine n selectors labels (k % n)) (omega arith) (line-circuit (suc (k % n)) (k % n) (omega arith) a) (omega (arith, circuit-long (k % n)))
+        ∙ List·getD-append (tab (column n selectors (k % n)) 5) (tab (column n labels (k % n)) 3) 0 (k / n) (omega (arith, length-tab (column n selectors (k % n)) 5))
+        ∙ getD-tab (column n selectors (k % n)) 5 (k / n) b
+        ∙ back-column selectors k
+
+    labels-back : (k : ℕ) → k < 3 * n → onLabels lines n l k ≡ getD labels k 0
+    labels-back k h =
+        let a = row k 3 h in
+        let b = col k 3 h in
+        number (suc (k % n)) (5 + k / n) (circuitLine n selectors labels (k % n)) (omega arith) (line-circuit (suc (k % n)) (k % n) (omega arith) a) (omega (arith, circuit-long (k % n)))
+        ∙ ap (λ (m : ℕ). getD (circuitLine n selectors labels (k % n)) (m + k / n) 0) (sym (length-tab (column n selectors (k % n)) 5))
+        ∙ getD-append-add (tab (column n selectors (k % n)) 5) (tab (column n labels (k % n)) 3) (k / n) 0
+        ∙ getD-tab (column n labels (k % n)) 3 (k / n) b
+        ∙ back-column labels k
+
+    witness-back : (k : ℕ) → k < 3 * n → onWitness lines n l k ≡ getD witness k 0
+    witness-back k h =
+        let a = row k 3 h in
+        let b = col k 3 h in
+        number (n + suc (k % n)) (k / n) (witnessLine n witness (k % n)) (omega arith) (line-witness (n + suc (k % n)) (k % n) (omega arith) a) (omega (arith, length-tab (column n witness (k % n)) 3))
+        ∙ getD-tab (column n witness (k % n)) 3 (k / n) b
+        ∙ back-column witness k
+
+    publics-back : (k : ℕ) → k < l → onPublics lines n l k ≡ getD publics k 0
+    publics-back k h =
+        number (n + n + suc k) 0 (publicLine publics k) (omega arith) (line-public (n + n + suc k) k (omega arith) h) (omega arith)
+
+    challenges-back : (k : ℕ) → k < 4 → onChallenges lines n l k ≡ getD challenges k 0
+    challenges-back k h =
+        number (n + n + l + 1) k challenges (omega arith) (line-last (n + n + l + 1) refl) (omega (arith, right .challenges-long))
+
+    list-back : (f : ℕ → ℕ) (xs : List ℕ) (m : ℕ) → length xs ≡ m → ((k : ℕ) → k < m → f k ≡ getD xs k 0) → tab f m ≡ xs
+    list-back f xs m e h = tab-ext f (λ k. getD xs k 0) m h ∙ ap (tab (λ k. getD xs k 0)) (sym e) ∙ tab-getD xs
+
+    first-line : isLineAt lines 0 3 ≡ true
+    unfolding lineAt fieldsDue
+    first-line = in-form n l sheetLine line-small line-long (some-due n l) (linesDue n l) 0 (omega arith)
+
+    first-word : (j : ℕ) → j < 3 → numberOf lines n l 0 j ≡ getD (p ∷ n ∷ l ∷ []) j 0
+    first-word j h = number 0 j (p ∷ n ∷ l ∷ []) (omega arith) line-first (omega arith)
+
+    of-lines : SheetBack lines p n l selectors labels witness publics challenges
+    unfolding lineAt numberOf
+    of-lines =
+        record {
+          in-form = first-line;
+          p-is = first-word 0 (omega arith);
+          n-is = first-word 1 (omega arith);
+          l-is = first-word 2 (omega arith);
+          none-bad = no-bad n l sheetLine line-small line-long (some-due n l);
+          none-extra = no-extra n l sheetLine line-small line-long (some-due n l);
+          selectors-are = list-back (onSelectors lines n l) selectors (5 * n) (right .selectors-long) selectors-back;
+          labels-are = list-back (onLabels lines n l) labels (3 * n) (right .labels-long) labels-back;
+          witness-is = list-back (onWitness lines n l) witness (3 * n) (right .witness-long) witness-back;
+          publics-are = list-back (onPublics lines n l) publics l (right .publics-long) publics-back;
+          challenges-are = list-back (onChallenges lines n l) challenges 4 (right .challenges-long) challenges-back;
+        }
+
+    pub sheet-back : SheetBack (sheetText p n l selectors labels witness publics challenges) p n l selectors labels witness publics challenges
+    sheet-back = subst (λ (s : List ℕ). SheetBack s p n l selectors labels witness publics challenges) (sym text-lines) of-lines
+
+-- TAKEN
+
+pub record Taken (s : List ℕ) (p n l : ℕ) (selectors labels witness publics challenges : List ℕ) : Type 0 where
+  pub short : length s ≤ 65536
+  pub one-of-three : isField p ≡ true
+  pub rows : isRows p n ≡ true
+  pub few : n ≤ 256
+  pub inputs : l ≤ n
+  pub selectors-below : All (λ (x : ℕ). x < p) selectors
+  pub witness-below : All (λ (x : ℕ). x < p) witness
+  pub publics-below : All (λ (x : ℕ). x < p) publics
+  pub challenges-below : All (λ (x : ℕ). x < p) challenges
+  pub labels-below : All (λ (x : ℕ). x < 3 * n) labels
+
+module _ (s : List ℕ) (p n l : ℕ) (selectors labels witness publics challenges : List ℕ) (back : SheetBack s p n l selectors labels witness publics challenges)
+    (taken : Taken s p n l selectors labels witness publics challenges) where
+  elements-below : All (λ (x : ℕ). x < p) (sheetElements s n l)
+  elements-below =
+      rw (back .selectors-are, back .witness-is, back .publics-are, back .challenges-are)
+      (all-append (λ (x : ℕ). x < p) selectors (witness ++ (publics ++ challenges)) (taken .selectors-below)
+      (all-append (λ (x : ℕ). x < p) witness (publics ++ challenges) (taken .witness-below)
+      (all-append (λ (x : ℕ). x < p) publics challenges (taken .publics-below) (taken .challenges-below))))
+
+  lent-labels-below : All (λ (x : ℕ). x < 3 * n) (tab (onLabels s n l) (3 * n))
+  lent-labels-below = rw (back .labels-are) (taken .labels-below)
+
+  pub sheet-taken : answerOf (sheetReasons s 1280 768 768 256 4) ≡ record { number = 0; detail = 0 }
+  sheet-taken =
+      rw (back .p-is, back .n-is, back .l-is)
+      (rw (
+        le-ltb 65536 (length s) (taken .short),
+        back .in-form,
+        taken .one-of-three,
+        taken .rows,
+        le-ltb 256 n (taken .few),
+        le-ltb n l (taken .inputs),
+        back .none-bad,
+        le-ltb (linesDue n l) (linesDue n l) (omega arith),
+        back .none-extra,
+        elements-none p (sheetElements s n l) elements-below,
+        elements-none (3 * n) (tab (onLabels s n l) (3 * n)) lent-labels-below,
+      ))
