@@ -1,0 +1,233 @@
+// Cases: circuits that are filled rightly, and damage of every kind that document 01 has a reason for.
+use crate::kinds::{Case, Kind, Role};
+use crate::numbers::*;
+use crate::plain;
+use crate::random::Random;
+use crate::rows;
+
+// A circuit with contents, public numbers and challenges.
+#[derive(Clone)]
+pub struct Circuit {
+    pub p: u32,
+    pub n: u32,
+    pub l: u32,
+    pub selectors: Vec<u32>,
+    pub labels: Vec<u32>,
+    pub contents: Vec<u32>,
+    pub publics: Vec<u32>,
+    pub challenges: [u32; 4],
+}
+
+// Labels: any, few different ones, one only, all different in any order.
+fn labels(r: &mut Random, n: usize) -> Vec<u32> {
+    let k = 3 * n;
+    let few = 1 + r.below(4);
+    match r.below(4) {
+        0 => (0..k).map(|_| r.below(k) as u32).collect(),
+        1 => (0..k).map(|_| (k - 1 - r.below(few)) as u32).collect(),
+        2 => (0..k).map(|i| if i < k / 2 { r.below(k) as u32 } else { i as u32 }).collect(),
+        _ => {
+            let mut all: Vec<u32> = (0..k as u32).collect();
+            for i in (1..k).rev() {
+                all.swap(i, r.below(i + 1));
+            }
+            all
+        }
+    }
+}
+
+impl Circuit {
+    // The constants that make every gate hold.
+    pub fn mend_gates(&mut self) {
+        let (p, n) = (self.p, self.n as usize);
+        for i in 0..n {
+            let off = rows::gate(p, n, &self.selectors, &self.contents, &self.publics, i);
+            let q = self.selectors[4 * n + i];
+            self.selectors[4 * n + i] = sub(p, q, off);
+        }
+    }
+
+    // A circuit that is filled rightly. A zero denominator may occur, and in small fields often does.
+    pub fn new(r: &mut Random, p: u32, n: u32) -> Circuit {
+        let m = n as usize;
+        let labels = labels(r, m);
+        let values = r.elements(p, 3 * m);
+        let l = match r.below(4) {
+            0 => 0,
+            1 => n,
+            _ => r.below(m + 1) as u32,
+        };
+        let mut circuit = Circuit {
+            p,
+            n,
+            l,
+            selectors: r.elements(p, 5 * m),
+            contents: labels.iter().map(|&v| values[v as usize]).collect(),
+            labels,
+            publics: r.elements(p, l as usize),
+            challenges: [r.element(p), r.element(p), r.element(p), r.element(p)],
+        };
+        if r.once_in(3) {
+            for q in circuit.selectors.iter_mut() {
+                *q = r.pick(&[0, 0, 1, p - 1]);
+            }
+        }
+        if r.once_in(6) {
+            circuit.challenges = [0; 4].map(|_| r.pick(&[0, 0, 1, p - 1, 2]));
+        }
+        circuit.mend_gates();
+        circuit
+    }
+
+    // A fault of the filling: a gate that fails, a content unlike its label's others, a zero denominator.
+    pub fn damage(&mut self, r: &mut Random) {
+        let (p, n) = (self.p, self.n as usize);
+        let k = r.below(3 * n);
+        match r.below(4) {
+            0 => {
+                let q = r.below(5 * n);
+                self.selectors[q] = r.element(p);
+            }
+            1 => self.contents[k] = r.element(p),
+            2 => {
+                self.contents[k] = r.element(p);
+                self.mend_gates();
+            }
+            _ => {
+                let own = rows::marks(p, &points(p, n));
+                let wired = rows::wired_marks(&own, &self.labels);
+                let part = add(p, self.contents[k], mul(p, self.challenges[0], wired[k]));
+                self.challenges[1] = sub(p, 0, part);
+            }
+        }
+    }
+
+    fn z(&self) -> Vec<u32> {
+        let (p, n) = (self.p, self.n as usize);
+        let own = rows::marks(p, &points(p, n));
+        let wired = rows::wired_marks(&own, &self.labels);
+        rows::grand(p, n, &self.contents, &own, &wired, self.challenges[0], self.challenges[1])
+    }
+
+    fn prepared(&self) -> Vec<u32> {
+        let n = self.n as usize;
+        let mut written = vec![0; 8 * n];
+        plain::prepare(self.p, self.n, &self.selectors, &self.labels, &mut written, &mut vec![0; 16 * n]);
+        written
+    }
+
+    // The transcript of the plain implementation; zeros where it refuses.
+    fn transcript(&self) -> Vec<u32> {
+        let n = self.n as usize;
+        let mut transcript = vec![0; 7 * n - 3];
+        let scratch = &mut vec![0; 16 * n];
+        let (s, c) = (&self.selectors, &self.contents);
+        plain::prove(self.p, self.n, self.l, s, &self.labels, c, &self.publics, &mut transcript, &self.challenges[..3], scratch);
+        transcript
+    }
+
+    // The call of a kind on this circuit. Buffers that are only written hold anything.
+    pub fn case(&self, r: &mut Random, kind: Kind) -> Case {
+        let (p, n) = (self.p, self.n as usize);
+        let (beta, gamma) = (self.challenges[0], self.challenges[1]);
+        let selectors = self.selectors.clone();
+        let labels = self.labels.clone();
+        let contents = self.contents.clone();
+        let publics = self.publics.clone();
+        let scratch = r.words(16 * n);
+        let buffers = match kind {
+            Kind::Inverse => vec![],
+            Kind::Evaluate | Kind::Interpolate => vec![r.elements(p, n), r.words(n), scratch],
+            Kind::Permutation => vec![labels, r.words(3 * n)],
+            Kind::Prepare => vec![selectors, labels, r.words(8 * n), scratch],
+            Kind::CheckRows => vec![selectors, labels, contents, publics, self.z(), vec![beta, gamma]],
+            Kind::CheckPoint => vec![publics, self.prepared(), self.transcript(), self.challenges.to_vec(), scratch],
+            Kind::Prove => vec![selectors, labels, contents, publics, r.words(7 * n - 3), self.challenges[..3].to_vec(), scratch],
+        };
+        let n = if kind == Kind::Inverse { r.element(p) } else { self.n };
+        Case { kind, p, n, l: self.l, buffers }
+    }
+}
+
+// Another element somewhere in what a check reads: an honest input that is honest no longer.
+pub fn disturb(r: &mut Random, case: &mut Case) {
+    let p = case.p;
+    let k = r.below(case.buffers.len());
+    let length = case.buffers[k].len();
+    if case.kind.roles()[k] == Role::Elements && length > 0 {
+        case.buffers[k][r.below(length)] = r.element(p);
+    }
+}
+
+// A point that is a row's, in the place of zeta.
+pub fn at_a_row(r: &mut Random, case: &mut Case) {
+    if case.kind == Kind::CheckPoint {
+        case.buffers[3][3] = r.pick(&points(case.p, case.n as usize));
+    }
+}
+
+fn resize(r: &mut Random, buffer: &mut Vec<u32>, p: u32) {
+    let length = buffer.len();
+    let new = match r.below(6) {
+        0 | 1 => length + 1,
+        2 | 3 => length.saturating_sub(1),
+        4 => 0,
+        _ => 2 * length + 2,
+    };
+    buffer.resize_with(new, || r.element(p.max(1)));
+}
+
+// One change that document 01 has a reason for, or nearly has.
+pub fn damage(r: &mut Random, case: &mut Case) {
+    let (p, n, l) = (case.p, case.n, case.l);
+    let kind = case.kind;
+    if kind == Kind::Inverse {
+        if r.once_in(2) {
+            case.p = r.pick(&[0, 1, 2, 16, 18, 17, 96, 98, 97, LARGEST - 1, LARGEST, LARGEST + 1, u32::MAX]);
+        } else {
+            case.n = r.pick(&[0, 1, p.wrapping_sub(1), p, p.wrapping_add(1), u32::MAX]);
+        }
+        return;
+    }
+    let k = r.below(case.buffers.len());
+    match r.below(9) {
+        0 => case.p = r.pick(&[0, 1, 2, 3, 16, 18, 17, 96, 98, 97, LARGEST - 1, LARGEST, LARGEST + 1, u32::MAX]),
+        1 => {
+            case.n = r.pick(&[
+                0,
+                1,
+                2,
+                3,
+                4,
+                6,
+                8,
+                32,
+                64,
+                1024,
+                2048,
+                1 << 31,
+                u32::MAX,
+                n.wrapping_add(1),
+                n.wrapping_sub(1),
+                n.wrapping_mul(2),
+            ])
+        }
+        2 if kind.has_l() => case.l = r.pick(&[0, n, n.wrapping_add(1), l.wrapping_add(1), l.wrapping_sub(1), u32::MAX]),
+        3 | 4 => resize(r, &mut case.buffers[k], p),
+        _ if case.buffers[k].is_empty() => {}
+        _ => {
+            let length = case.buffers[k].len();
+            let at = match r.below(4) {
+                0 => 0,
+                1 => length - 1,
+                _ => r.below(length),
+            };
+            let bound = match kind.roles()[k] {
+                Role::Elements => p,
+                Role::Labels => n.wrapping_mul(3),
+                Role::Written => return,
+            };
+            case.buffers[k][at] = r.pick(&[bound, bound, bound.wrapping_add(1), u32::MAX, bound.wrapping_sub(1)]);
+        }
+    }
+}

@@ -1,0 +1,166 @@
+// The proved library against the plain implementation: every word of every buffer.
+use crate::cases::{at_a_row, damage, disturb, Circuit};
+use crate::kinds::{plainly, proved, Case, Kind, KINDS};
+use crate::numbers::{field, LARGEST, PRIMES};
+use crate::random::Random;
+use std::collections::BTreeMap;
+
+// Words around each lent part, which no call may touch.
+const AROUND: usize = 3;
+
+fn padded(r: &mut Random, words: &[u32]) -> Vec<u32> {
+    let mut all = r.words(AROUND);
+    all.extend_from_slice(words);
+    all.extend(r.words(AROUND));
+    all
+}
+
+fn inner(all: &mut Vec<u32>) -> &mut [u32] {
+    let end = all.len() - AROUND;
+    &mut all[AROUND..end]
+}
+
+// The words over the start of a buffer, as many as it has room for.
+pub fn over(words: &[u32], buffer: &mut [u32]) {
+    for (b, w) in buffer.iter_mut().zip(words) {
+        *b = *w;
+    }
+}
+
+// The first buffer and word that differ.
+fn first_difference(ours: &[Vec<u32>], theirs: &[Vec<u32>]) -> Option<(usize, usize)> {
+    ours.iter().zip(theirs).enumerate().find_map(|(k, (a, b))| a.iter().zip(b).position(|(x, y)| x != y).map(|i| (k, i)))
+}
+
+fn report(case: &Case, words: &[u32], place: (usize, usize), ours: &[Vec<u32>], theirs: &[Vec<u32>]) {
+    let (k, i) = place;
+    let buffer = if k < case.buffers.len() { format!("buffer {}", k + 1) } else { "the answer".to_string() };
+    println!("DIFFERENCE {:?} p={} n={} l={}", case.kind, case.p, case.n, case.l);
+    println!("  plain answer {words:?}; {buffer}, word {}: proved {}, plain {}", i as i64 - AROUND as i64, theirs[k][i], ours[k][i]);
+    for (k, b) in case.buffers.iter().enumerate() {
+        println!("  buffer {} of {} words: {:?}", k + 1, b.len(), &b[..b.len().min(64)]);
+    }
+}
+
+// How often each answer came: number, and the word of the verdict of an accepted check.
+type Counts = BTreeMap<(u32, u32), usize>;
+
+// One case on both sides. 1 if they differ.
+fn try_case(r: &mut Random, case: &Case, counts: &mut Counts) -> usize {
+    let room = r.below(7);
+    let mut ours: Vec<Vec<u32>> = case.buffers.iter().map(|b| padded(r, b)).collect();
+    let free = r.words(room);
+    let answer = padded(r, &free);
+    ours.push(answer);
+    let mut theirs = ours.clone();
+
+    let (last, rest) = ours.split_last_mut().unwrap();
+    let mut lent: Vec<&mut [u32]> = rest.iter_mut().map(inner).collect();
+    let words = plainly(case, &mut lent);
+    over(&words, inner(last));
+
+    let (last, rest) = theirs.split_last_mut().unwrap();
+    let mut lent: Vec<&mut [u32]> = rest.iter_mut().map(inner).collect();
+    proved(case, &mut lent, inner(last));
+
+    let verdict = if case.kind == Kind::Inverse { 0 } else { words.get(2).copied().unwrap_or(0) };
+    *counts.entry((words[0], verdict)).or_insert(0) += 1;
+    match first_difference(&ours, &theirs) {
+        None => 0,
+        Some(place) => {
+            report(case, &words, place, &ours, &theirs);
+            1
+        }
+    }
+}
+
+// A case of a kind: half of them as they should be, the others damaged once or more.
+fn make(r: &mut Random, kind: Kind, p: u32, n: u32) -> Case {
+    let mut circuit = Circuit::new(r, p, n);
+    if r.once_in(3) {
+        circuit.damage(r);
+    }
+    let mut case = circuit.case(r, kind);
+    if r.once_in(5) {
+        at_a_row(r, &mut case);
+    }
+    if matches!(kind, Kind::CheckRows | Kind::CheckPoint) && r.once_in(3) {
+        disturb(r, &mut case);
+    }
+    if r.once_in(2) {
+        for _ in 0..1 + r.below(3) {
+            damage(r, &mut case);
+        }
+    }
+    case
+}
+
+// How many cases of a kind at n rows: the long ones are few.
+fn how_many(kind: Kind, n: usize) -> usize {
+    match kind {
+        Kind::Inverse => 2000,
+        Kind::Prove | Kind::CheckPoint => (1_200_000 / (n * n)).clamp(12, 4000),
+        _ => (600_000 / n).clamp(60, 4000),
+    }
+}
+
+// The inverse of every element of the small fields, and past them.
+fn all_inverses(r: &mut Random, counts: &mut Counts) -> (usize, usize) {
+    let mut tried = 0;
+    let mut differences = 0;
+    for p in (0..120).chain([LARGEST - 1, LARGEST, LARGEST + 1, u32::MAX]) {
+        for x in 0..130 {
+            let case = Case { kind: Kind::Inverse, p, n: x, l: 0, buffers: vec![] };
+            differences += try_case(r, &case, counts);
+            tried += 1;
+        }
+    }
+    (tried, differences)
+}
+
+fn show(kind: Kind, tried: usize, differences: usize, counts: &Counts) {
+    let answers: Vec<String> = counts
+        .iter()
+        .map(|(&(number, verdict), times)| {
+            let name = match (kind, verdict) {
+                (Kind::CheckRows, 1) | (Kind::CheckPoint, 1) => ["pass", "accept"][(kind == Kind::CheckPoint) as usize].to_string(),
+                (Kind::CheckRows, 2) => "gate".to_string(),
+                (Kind::CheckPoint, 2) => "reject".to_string(),
+                (Kind::CheckRows, 3) => "start".to_string(),
+                (Kind::CheckRows, 4) => "step".to_string(),
+                _ => number.to_string(),
+            };
+            format!("{name}: {times}")
+        })
+        .collect();
+    println!("{:<12} {tried:>6} cases, {differences} differences   by answer  {}", format!("{kind:?}"), answers.join(", "));
+}
+
+// All kinds, primes and numbers of rows. How many cases differ.
+pub fn run(times: usize) -> usize {
+    let mut r = Random::new(20);
+    let mut all = 0;
+    println!("comparing (answers by their number; 0 is accepted)");
+    for kind in KINDS {
+        let mut counts = Counts::new();
+        let (mut tried, mut differences) = (0, 0);
+        if kind == Kind::Inverse {
+            (tried, differences) = all_inverses(&mut r, &mut counts);
+        }
+        for p in PRIMES {
+            let (_, most) = field(p).unwrap();
+            let mut n = 2;
+            while n <= most {
+                for _ in 0..times * how_many(kind, n as usize) {
+                    let case = make(&mut r, kind, p, n);
+                    differences += try_case(&mut r, &case, &mut counts);
+                    tried += 1;
+                }
+                n *= 2;
+            }
+        }
+        show(kind, tried, differences, &counts);
+        all += differences;
+    }
+    all
+}

@@ -1,0 +1,120 @@
+// The sheet of document 01 with the answers that it gives, on both sides.
+use crate::kinds::{plainly, proved, Case, Kind};
+use crate::{calls, plain, sheets};
+
+pub const SHEET: &[u8] = b"17,2,0\n0,0,16,1,0,0,1,2\n1,1,16,0,0,2,2,3\n2,3,6\n6,6,12\n1,1,2,2\n";
+const PRINTED: &str = "a,4,15\nb,13,7\nc,9,14\nz,16,2\nt,9,12,15\naccept\n";
+
+const SELECTORS: [u32; 10] = [0, 1, 0, 1, 16, 16, 1, 0, 0, 0];
+const LABELS: [u32; 6] = [0, 2, 1, 2, 2, 3];
+const CONTENTS: [u32; 6] = [2, 6, 3, 6, 6, 12];
+const TRANSCRIPT: [u32; 11] = [4, 15, 13, 7, 9, 14, 16, 2, 9, 12, 15];
+
+// A call on both sides: the answer's words, then the numbers of the buffer that is looked at.
+fn expect(name: &str, kind: Kind, l: u32, buffers: &[&[u32]], words: &[u32], at: usize, due: &[u32]) -> usize {
+    let buffers: Vec<Vec<u32>> = buffers.iter().map(|b| b.to_vec()).collect();
+    let case = Case { kind, p: 17, n: 2, l, buffers };
+    let mut off = 0;
+    for side in ["plain", "proved"] {
+        let mut own = case.buffers.clone();
+        let mut lent: Vec<&mut [u32]> = own.iter_mut().map(|b| &mut b[..]).collect();
+        let mut answer = vec![0; words.len()];
+        if side == "plain" {
+            answer = plainly(&case, &mut lent);
+        } else {
+            proved(&case, &mut lent, &mut answer);
+        }
+        if answer != words || own[at] != due {
+            println!("DIFFERENCE from document 01, {side}, {name}: answer {answer:?}, numbers {:?}", own[at]);
+            off += 1;
+        }
+    }
+    off
+}
+
+fn prove(name: &str, contents: &[u32], challenges: &[u32], words: &[u32], due: &[u32]) -> usize {
+    expect(name, Kind::Prove, 0, &[&SELECTORS, &LABELS, contents, &[], &[7; 11], challenges, &[7; 32]], words, 4, due)
+}
+
+fn rows(name: &str, contents: &[u32], z: &[u32], challenges: &[u32], words: &[u32]) -> usize {
+    expect(name, Kind::CheckRows, 0, &[&SELECTORS, &LABELS, contents, &[], z, challenges], words, 4, z)
+}
+
+// With row 1 as 5,7,12, beta 1 and gamma 1, no z passes.
+fn no_pass(contents: &[u32], z: &[u32]) -> usize {
+    let (s, k) = (&SELECTORS, &LABELS);
+    let ours = plain::check_rows(17, 2, 0, s, k, contents, &[], z, &[1, 1]);
+    let mut theirs = [0; 4];
+    calls::check_rows(17, 2, 0, s, k, contents, &[], z, &[1, 1], &mut theirs);
+    if ours[2] == 1 || theirs != ours {
+        println!("DIFFERENCE from document 01, row 1 as 5,7,12, z = {z:?}: plain {ours:?}, proved {theirs:?}");
+        return 1;
+    }
+    0
+}
+
+// What `deposit` prints of the sheet with a part of it changed, on both sides.
+fn deposit(name: &str, from: &str, to: &str, due: &str) -> usize {
+    let sheet = std::str::from_utf8(SHEET).unwrap().replacen(from, to, 1);
+    let mut text = vec![7; sheets::TEXT];
+    let mut answer = [7; 3];
+    calls::deposit(sheet.as_bytes(), &mut text, &mut answer);
+    let mut whole = due.as_bytes().to_vec();
+    whole.resize(sheets::TEXT, 0);
+    if sheets::printed(sheet.as_bytes()) != due || text != whole || answer != [0, 0, due.len() as u32] {
+        println!("DIFFERENCE from document 01, {name}: plain prints {:?}", sheets::printed(sheet.as_bytes()));
+        println!("  proved answers {answer:?}: {}", text.escape_ascii().to_string().split("\\x00").next().unwrap());
+        return 1;
+    }
+    0
+}
+
+// The texts that document 01 gives, and its edges.
+fn deposits() -> usize {
+    let mut off = deposit("the sheet", "", "", PRINTED);
+    off += deposit("last content 11", "6,6,12", "6,6,11", "refused,9,1\n");
+    off += deposit("row 1 as 5,7,12", "6,6,12", "5,7,12", "refused,10,3\n");
+    off += deposit("gamma 14", "1,1,2,2", "1,14,2,2", "refused,11,0\n");
+    off += deposit("gamma 2", "1,1,2,2", "1,2,2,2", "refused,11,1\n");
+    off += deposit("4 rows", "17,2,0", "17,4,0", "refused,5,4\n");
+    off += deposit("8 rows", "17,2,0", "17,8,0", "refused,3,0\n");
+    off += deposit("97 with 32 rows", "17,2,0", "97,32,0", "refused,5,4\n");
+    off += deposit("97 with 64 rows", "17,2,0", "97,64,0", "refused,3,0\n");
+    off += deposit("256 rows", "17,2,0", "2013265921,256,0", "refused,5,4\n");
+    off += deposit("512 rows", "17,2,0", "2013265921,512,0", "refused,3,0\n");
+    off += deposit("1 row", "17,2,0", "17,1,0", "refused,3,0\n");
+    off += deposit("3 rows", "17,2,0", "17,3,0", "refused,3,0\n");
+    off += deposit("p = 18, n = 3", "17,2,0", "18,3,0", "refused,2,0\n");
+    off += deposit("l = 2", "17,2,0", "17,2,2", "refused,5,6\n");
+    off += deposit("l = 3", "17,2,0", "17,2,3", "refused,4,0\n");
+    off += deposit("content 16", "6,6,12", "6,6,16", "refused,9,1\n");
+    off += deposit("content 17", "6,6,12", "6,6,17", "refused,7,15\n");
+    off += deposit("label 5", "2,2,3", "2,2,5", PRINTED);
+    off += deposit("label 6", "2,2,3", "2,2,6", "refused,8,5\n");
+    off
+}
+
+pub fn run() -> usize {
+    let untouched = [7; 11];
+    let mut off = 0;
+    off += expect("wiring", Kind::Permutation, 0, &[&LABELS, &[7; 6]], &[0, 0], 1, &[0, 3, 2, 4, 1, 5]);
+    off += prove("the transcript", &CONTENTS, &[1, 1, 2], &[0, 0], &TRANSCRIPT);
+    off += prove("last content 11", &[2, 6, 3, 6, 6, 11], &[1, 1, 2], &[9, 1], &untouched);
+    off += prove("row 1 as 5,7,12", &[2, 5, 3, 7, 6, 12], &[1, 1, 2], &[10, 3], &untouched);
+    off += prove("gamma 14", &CONTENTS, &[1, 14, 2], &[11, 0], &untouched);
+    off += prove("gamma 2", &CONTENTS, &[1, 2, 2], &[11, 1], &untouched);
+    off += rows("z on the rows", &CONTENTS, &[1, 14], &[1, 1], &[0, 0, 1, 0]);
+    off += rows("beta 0, gamma 1, z = 1", &[2, 5, 3, 7, 6, 12], &[1, 1], &[0, 1], &[0, 0, 1, 0]);
+    for z0 in 0..17 {
+        for z1 in 0..17 {
+            off += no_pass(&[2, 5, 3, 7, 6, 12], &[z0, z1]);
+        }
+    }
+    let mut prepared = [7; 16];
+    plain::prepare(17, 2, &SELECTORS, &LABELS, &mut prepared, &mut [7; 32]);
+    off += expect("prepared", Kind::Prepare, 0, &[&SELECTORS, &LABELS, &[7; 16], &[7; 32]], &[0, 0], 2, &prepared);
+    off += expect("accept", Kind::CheckPoint, 0, &[&[], &prepared, &TRANSCRIPT, &[1, 1, 2, 2], &[7; 32]], &[0, 0, 1], 4, &[0; 32]);
+    off += deposits();
+    println!("the sheet of document 01: {off} differences");
+    off
+}

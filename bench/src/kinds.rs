@@ -1,0 +1,99 @@
+// The calls by name, the buffers of each in document 01's order, and how a case is lent to either side.
+use crate::{calls, plain};
+
+#[derive(Clone, Copy, PartialEq, Debug)]
+pub enum Kind {
+    Inverse,
+    Evaluate,
+    Interpolate,
+    Permutation,
+    Prepare,
+    CheckRows,
+    CheckPoint,
+    Prove,
+}
+
+pub const KINDS: [Kind; 8] =
+    [Kind::Inverse, Kind::Evaluate, Kind::Interpolate, Kind::Permutation, Kind::Prepare, Kind::CheckRows, Kind::CheckPoint, Kind::Prove];
+
+// What a buffer holds: elements or labels that are read, or numbers that are only written.
+#[derive(Clone, Copy, PartialEq, Debug)]
+pub enum Role {
+    Elements,
+    Labels,
+    Written,
+}
+
+impl Kind {
+    pub fn roles(self) -> &'static [Role] {
+        use Role::*;
+        match self {
+            Kind::Inverse => &[],
+            Kind::Evaluate | Kind::Interpolate => &[Elements, Written, Written],
+            Kind::Permutation => &[Labels, Written],
+            Kind::Prepare => &[Elements, Labels, Written, Written],
+            Kind::CheckRows => &[Elements, Labels, Elements, Elements, Elements, Elements],
+            Kind::CheckPoint => &[Elements, Elements, Elements, Elements, Written],
+            Kind::Prove => &[Elements, Labels, Elements, Elements, Written, Elements, Written],
+        }
+    }
+
+    // Whether the call is lent l.
+    pub fn has_l(self) -> bool {
+        matches!(self, Kind::CheckRows | Kind::CheckPoint | Kind::Prove)
+    }
+}
+
+// A call with what is lent to it. The number to be inverted stands in the place of n.
+#[derive(Clone, Debug)]
+pub struct Case {
+    pub kind: Kind,
+    pub p: u32,
+    pub n: u32,
+    pub l: u32,
+    pub buffers: Vec<Vec<u32>>,
+}
+
+// The plain implementation's answer; the buffers are written as it writes them.
+pub fn plainly(case: &Case, buffers: &mut [&mut [u32]]) -> Vec<u32> {
+    let (p, n, l) = (case.p, case.n, case.l);
+    match (case.kind, buffers) {
+        (Kind::Inverse, []) => plain::inverse(p, n).to_vec(),
+        (Kind::Evaluate, [input, result, scratch]) => plain::evaluate(p, n, input, result, scratch).to_vec(),
+        (Kind::Interpolate, [input, result, scratch]) => plain::interpolate(p, n, input, result, scratch).to_vec(),
+        (Kind::Permutation, [labels, positions]) => plain::permutation(p, n, labels, positions).to_vec(),
+        (Kind::Prepare, [selectors, labels, written, scratch]) => plain::prepare(p, n, selectors, labels, written, scratch).to_vec(),
+        (Kind::CheckRows, [selectors, labels, contents, publics, z, challenges]) => {
+            plain::check_rows(p, n, l, selectors, labels, contents, publics, z, challenges).to_vec()
+        }
+        (Kind::CheckPoint, [publics, prepared, transcript, challenges, scratch]) => {
+            plain::check_point(p, n, l, publics, prepared, transcript, challenges, scratch).to_vec()
+        }
+        (Kind::Prove, [selectors, labels, contents, publics, transcript, challenges, scratch]) => {
+            plain::prove(p, n, l, selectors, labels, contents, publics, transcript, challenges, scratch).to_vec()
+        }
+        _ => unreachable!("a case has the buffers of its call"),
+    }
+}
+
+// The proved library on the same case; its answer's words go to the lent answer.
+pub fn proved(case: &Case, buffers: &mut [&mut [u32]], answer: &mut [u32]) {
+    let (p, n, l) = (case.p, case.n, case.l);
+    match (case.kind, buffers) {
+        (Kind::Inverse, []) => calls::inverse(p, n, answer),
+        (Kind::Evaluate, [input, result, scratch]) => calls::evaluate(p, n, input, result, scratch, answer),
+        (Kind::Interpolate, [input, result, scratch]) => calls::interpolate(p, n, input, result, scratch, answer),
+        (Kind::Permutation, [labels, positions]) => calls::permutation(p, n, labels, positions, answer),
+        (Kind::Prepare, [selectors, labels, written, scratch]) => calls::prepare(p, n, selectors, labels, written, scratch, answer),
+        (Kind::CheckRows, [selectors, labels, contents, publics, z, challenges]) => {
+            calls::check_rows(p, n, l, selectors, labels, contents, publics, z, challenges, answer)
+        }
+        (Kind::CheckPoint, [publics, prepared, transcript, challenges, scratch]) => {
+            calls::check_point(p, n, l, publics, prepared, transcript, challenges, scratch, answer)
+        }
+        (Kind::Prove, [selectors, labels, contents, publics, transcript, challenges, scratch]) => {
+            calls::prove(p, n, l, selectors, labels, contents, publics, transcript, challenges, scratch, answer)
+        }
+        _ => unreachable!("a case has the buffers of its call"),
+    }
+}

@@ -1,0 +1,131 @@
+// The time of each call on both sides, on the same valid input, and the ratio.
+use crate::calls;
+use crate::cases::Circuit;
+use crate::kinds::{plainly, proved, Case, Kind};
+use crate::numbers::LARGEST;
+use crate::random::Random;
+use crate::sheet_cases::sheet_of;
+use crate::sheets::{self, LENGTHS, MOST_ROWS, TEXT};
+use std::hint::black_box;
+
+#[repr(C)]
+struct Moment {
+    seconds: i64,
+    nanoseconds: i64,
+}
+
+extern "C" {
+    fn clock_gettime(clock: i32, moment: *mut Moment) -> i32;
+}
+
+// The processor time of this thread in microseconds (Linux): what other programs take of the machine is left out.
+fn now() -> f64 {
+    let mut moment = Moment { seconds: 0, nanoseconds: 0 };
+    unsafe { clock_gettime(3, &mut moment) };
+    moment.seconds as f64 * 1e6 + moment.nanoseconds as f64 / 1e3
+}
+
+// A circuit whose filling has no zero denominator.
+fn circuit(r: &mut Random, n: u32) -> Circuit {
+    loop {
+        let circuit = Circuit::new(r, LARGEST, n);
+        let case = circuit.case(r, Kind::Prove);
+        let mut buffers = case.buffers.clone();
+        let mut lent: Vec<&mut [u32]> = buffers.iter_mut().map(|b| &mut b[..]).collect();
+        if plainly(&case, &mut lent)[0] == 0 {
+            return circuit;
+        }
+    }
+}
+
+// The microseconds of one call, over a batch of calls.
+fn batch(call: &mut dyn FnMut(), calls: usize) -> f64 {
+    let start = now();
+    for _ in 0..calls {
+        call();
+    }
+    (now() - start) / calls as f64
+}
+
+// The best of many short batches of each side, in turn, so that both meet the same disturbances.
+fn measure(name: &str, n: u32, theirs: &mut dyn FnMut(), ours: &mut dyn FnMut()) {
+    let first = batch(ours, 1).max(0.1);
+    let calls = (2_000.0 / first).max(1.0) as usize;
+    let batches = (2_000_000.0 / (first * calls as f64)).clamp(15.0, 300.0) as usize;
+    let (mut plain, mut proved) = (f64::MAX, f64::MAX);
+    for _ in 0..batches {
+        proved = proved.min(batch(theirs, calls));
+        plain = plain.min(batch(ours, calls));
+    }
+    println!("{name:<12} {n:>6} {proved:>12.2} {plain:>12.2} {:>8.2}", proved / plain);
+}
+
+// A call on lent numbers.
+fn measure_case(case: &Case) {
+    let mut one = case.buffers.clone();
+    let mut other = case.buffers.clone();
+    let mut theirs: Vec<&mut [u32]> = one.iter_mut().map(|b| &mut b[..]).collect();
+    let mut ours: Vec<&mut [u32]> = other.iter_mut().map(|b| &mut b[..]).collect();
+    let mut answer = [0; 4];
+    measure(
+        &format!("{:?}", case.kind),
+        case.n,
+        &mut || proved(black_box(case), black_box(&mut theirs), black_box(&mut answer)),
+        &mut || {
+            black_box(plainly(black_box(case), black_box(&mut ours)));
+        },
+    );
+}
+
+// Reading a sheet.
+fn measure_read(n: u32, sheet: &[u8]) {
+    let mut one = LENGTHS.map(|length| vec![0; length]);
+    let mut other = one.clone();
+    let mut answer = [0; 5];
+    measure(
+        "Read",
+        n,
+        &mut || {
+            let [a, b, c, d, e] = black_box(&mut one);
+            calls::read(black_box(sheet), a, b, c, d, e, black_box(&mut answer));
+        },
+        &mut || {
+            let mut lent = other.each_mut().map(|b| &mut b[..]);
+            black_box(sheets::read(black_box(sheet), black_box(&mut lent)));
+        },
+    );
+    assert!(answer[0] == 0 && one == other);
+}
+
+// The text of a sheet.
+fn measure_deposit(n: u32, sheet: &[u8]) {
+    let mut one = vec![0; TEXT];
+    let mut other = one.clone();
+    let mut answer = [0; 3];
+    measure(
+        "Deposit",
+        n,
+        &mut || calls::deposit(black_box(sheet), black_box(&mut one), black_box(&mut answer)),
+        &mut || {
+            black_box(sheets::deposit(black_box(sheet), black_box(&mut other)));
+        },
+    );
+    assert!(answer[0] == 0 && one == other);
+}
+
+pub fn run() {
+    let mut r = Random::new(64);
+    println!("\nmeasuring, p = {LARGEST}, microseconds for one call, best of 15 or more batches");
+    println!("{:<12} {:>6} {:>12} {:>12} {:>8}", "call", "n", "proved", "plain", "ratio");
+    for n in [64, 256, 1024] {
+        let circuit = circuit(&mut r, n);
+        for kind in [Kind::Evaluate, Kind::Interpolate, Kind::Prepare, Kind::CheckRows, Kind::CheckPoint, Kind::Prove] {
+            measure_case(&circuit.case(&mut r, kind));
+        }
+        if n <= MOST_ROWS {
+            let sheet = sheet_of(&circuit);
+            measure_read(n, &sheet);
+            measure_deposit(n, &sheet);
+        }
+    }
+}

@@ -1,0 +1,167 @@
+// The sheet of document 01: reading one, and the text of a deposit, written plainly from the document.
+use crate::plain::{self, admitted, elements, few, labelled, lengths, Refusal};
+use std::fmt::Write;
+
+pub const LONGEST: usize = 65536;
+pub const MOST_ROWS: u32 = 256;
+pub const LENGTHS: [usize; 5] = [1280, 768, 768, 256, 4];
+pub const TEXT: usize = 20480;
+
+// A sheet's numbers as they are lent.
+pub struct Sheet {
+    pub p: u32,
+    pub n: u32,
+    pub l: u32,
+    pub selectors: Vec<u32>,
+    pub labels: Vec<u32>,
+    pub contents: Vec<u32>,
+    pub publics: Vec<u32>,
+    pub challenges: Vec<u32>,
+}
+
+// A number: digits, no leading zero, below 2^32 and so of at most 10 digits.
+fn number(field: &[u8]) -> Option<u32> {
+    if field.is_empty() || field.len() > 10 || field.len() > 1 && field[0] == b'0' {
+        return None;
+    }
+    let mut x = 0;
+    for &b in field {
+        if !b.is_ascii_digit() {
+            return None;
+        }
+        x = 10 * x + (b - b'0') as u64;
+    }
+    u32::try_from(x).ok()
+}
+
+// A line of K numbers that ends in byte 10.
+fn line<const K: usize>(line: Option<&[u8]>) -> Option<[u32; K]> {
+    let mut fields = line?.strip_suffix(b"\n")?.split(|&b| b == b',');
+    let mut out = [0; K];
+    for x in &mut out {
+        *x = number(fields.next()?)?;
+    }
+    fields.next().is_none().then_some(out)
+}
+
+// Lines of K numbers, the first of them line `from`, laid column after column.
+fn block<'a, const K: usize>(lines: &mut impl Iterator<Item = &'a [u8]>, from: u32, count: u32) -> Result<Vec<u32>, Refusal> {
+    let n = count as usize;
+    let mut out = vec![0; K * n];
+    for i in 0..n {
+        let numbers = line::<K>(lines.next()).ok_or([5, from + i as u32])?;
+        for (k, x) in numbers.into_iter().enumerate() {
+            out[k * n + i] = x;
+        }
+    }
+    Ok(out)
+}
+
+// 1 to 5.
+fn parse(sheet: &[u8]) -> Result<Sheet, Refusal> {
+    if sheet.len() > LONGEST {
+        return Err([1, 0]);
+    }
+    let mut lines = sheet.split_inclusive(|&b| b == 10);
+    let [p, n, l] = line(lines.next()).ok_or([1, 0])?;
+    admitted(p, n)?;
+    if n > MOST_ROWS {
+        return Err([3, 0]);
+    }
+    few(l, n)?;
+    let mut selectors = block::<8>(&mut lines, 2, n)?;
+    let labels = selectors.split_off(5 * n as usize);
+    let contents = block::<3>(&mut lines, 2 + n, n)?;
+    let publics = block::<1>(&mut lines, 2 + 2 * n, l)?;
+    let challenges = block::<4>(&mut lines, 2 + 2 * n + l, 1)?;
+    match lines.next() {
+        Some(_) => Err([5, 3 + 2 * n + l]),
+        None => Ok(Sheet { p, n, l, selectors, labels, contents, publics, challenges }),
+    }
+}
+
+// 1 to 8, the buffers in their order.
+fn decide(sheet: &[u8], lent: &[&mut [u32]; 5]) -> Result<Sheet, Refusal> {
+    let s = parse(sheet)?;
+    let due = [0, 1, 2, 3, 4].map(|k| (&*lent[k], LENGTHS[k]));
+    lengths(&due).map_err(|[number, place]| [number, place + 1])?; // the sheet is the first buffer
+    elements(s.p, &[&s.selectors, &s.contents, &s.publics, &s.challenges])?;
+    labelled(&s.labels)?;
+    Ok(s)
+}
+
+// The numbers at the start of a buffer, zeros behind.
+fn lay(numbers: &[u32], buffer: &mut [u32]) {
+    buffer[..numbers.len()].copy_from_slice(numbers);
+    buffer[numbers.len()..].fill(0);
+}
+
+// Selectors, labels, contents, public numbers and challenges.
+pub fn read(sheet: &[u8], lent: &mut [&mut [u32]; 5]) -> [u32; 5] {
+    match decide(sheet, lent) {
+        Ok(s) => {
+            lay(&s.selectors, lent[0]);
+            lay(&s.labels, lent[1]);
+            lay(&s.contents, lent[2]);
+            lay(&s.publics, lent[3]);
+            lay(&s.challenges, lent[4]);
+            [0, 0, s.p, s.n, s.l]
+        }
+        Err([number, detail]) => [number, detail, 0, 0, 0],
+    }
+}
+
+fn print_line(out: &mut String, word: &str, numbers: &[u32]) {
+    out.push_str(word);
+    for x in numbers {
+        write!(out, ",{x}").unwrap();
+    }
+    out.push('\n');
+}
+
+// The five polynomials and the point verdict.
+fn print_work(s: &Sheet) -> Result<String, Refusal> {
+    let n = s.n as usize;
+    let mut transcript = vec![0; 7 * n - 3];
+    let mut prepared = vec![0; 8 * n];
+    let scratch = &mut vec![0; 16 * n];
+    let challenges = &s.challenges[..3];
+    let made = plain::prove(s.p, s.n, s.l, &s.selectors, &s.labels, &s.contents, &s.publics, &mut transcript, challenges, scratch);
+    if made[0] != 0 {
+        return Err(made);
+    }
+    plain::prepare(s.p, s.n, &s.selectors, &s.labels, &mut prepared, scratch);
+    let verdict = plain::check_point(s.p, s.n, s.l, &s.publics, &prepared, &transcript, &s.challenges, scratch);
+    let mut out = String::new();
+    for (k, letter) in ["a", "b", "c", "z"].into_iter().enumerate() {
+        print_line(&mut out, letter, &transcript[k * n..(k + 1) * n]);
+    }
+    print_line(&mut out, "t", &transcript[4 * n..]);
+    print_line(&mut out, ["none", "accept", "reject"][verdict[2] as usize], &[]);
+    Ok(out)
+}
+
+// What `deposit` prints.
+pub fn printed(sheet: &[u8]) -> String {
+    let mut own = LENGTHS.map(|length| vec![0; length]);
+    let lent = own.each_mut().map(|b| &mut b[..]);
+    match decide(sheet, &lent).and_then(|s| print_work(&s)) {
+        Ok(out) => out,
+        Err(refusal) => {
+            let mut out = String::new();
+            print_line(&mut out, "refused", &refusal);
+            out
+        }
+    }
+}
+
+// That text at the start of a buffer of its length, zeros behind.
+pub fn deposit(sheet: &[u8], text: &mut [u8]) -> [u32; 3] {
+    if text.len() != TEXT {
+        return [6, 2, 0];
+    }
+    let out = printed(sheet);
+    text[..out.len()].copy_from_slice(out.as_bytes());
+    text[out.len()..].fill(0);
+    [0, 0, out.len() as u32]
+}

@@ -1,0 +1,43 @@
+-- `archive::work::check` meets its contract: what is lent is not turned down. Assumes nothing.
+use mathlib.Core.Path.{sym}
+use Prim.Native.Nat.{_*_, _≤_}
+use native.Mathlib.Omega.{arith}
+use lib.ListN.{length}
+use lib.Seq.{length-take-le}
+use borrow.Author.Needs.{needs}
+use Rattle.archive.specs.Work.{judged-of}
+use Rattle.archive.proofs.work.check.Statement.{statement}
+use Rattle.archive.proofs.work.check.Tie as tie
+
+-- the scratch has room
+fits : (c : tie.After-blank-4096) → 16 * c .before .before .before .before .before .args .n ≤ length (c .blank-4096 .result)
+fits c = omega (arith, c .blank-4096 .ensures, c .before .before .before .before .before .pre .few)
+
+mul-end : tie.Need-mul-end
+mul-end c = search needs
+
+blank-4096-requires : tie.Need-blank-4096-requires
+blank-4096-requires c κs = search needs
+
+array-borrow-prefix-scratch : tie.Need-array-borrow-prefix-scratch
+array-borrow-prefix-scratch c = search needs
+
+slice-aggregate-check-point : tie.Need-slice-aggregate-check-point
+slice-aggregate-check-point c = sym (length-take-le _ _ (fits (c .before)))
+
+check-point-requires : tie.Need-check-point-requires
+check-point-requires c κs = search needs
+
+returns : tie.Need-returns
+returns c = judged-of _ _ _ (c .before .before .before .before .before .before .before .before .pre) (length-take-le _ _ (fits (c .before .before .before))) (c .before .check-point .ensures)
+
+pub check-spec : {M : Type 1} → statement M
+check-spec =
+    tie.close
+    (tie.spec
+    mul-end
+    blank-4096-requires
+    array-borrow-prefix-scratch
+    slice-aggregate-check-point
+    check-point-requires
+    returns)

@@ -1,0 +1,76 @@
+-- `archive::work::judge` meets its contract: the circuit is prepared in an array, and judged with it. Assumes nothing.
+use mathlib.Core.Path.{_≡_, sym, subst, ap, _∙_}
+use mathlib.Core.List.{List, _++_}
+use Prim.Native.Nat.{ℕ, _*_, _≤_}
+use native.Mathlib.Omega.{arith}
+use lib.ListN.{length, take, drop}
+use lib.Seq.{take-at, length-take-le, length-front}
+use borrow.Author.Needs.{needs}
+use Rattle.circuit.specs.Circuit.{lentCircuit}
+use Rattle.protocol.specs.Protocol.{prepared}
+use Rattle.pointcheck.specs.Promises.{judgedAt}
+use Rattle.archive.specs.Work.{Judgeable, judgeable-of}
+use Rattle.archive.proofs.work.judge.Statement.{statement}
+use Rattle.archive.proofs.work.judge.Tie as tie
+
+-- the array has room, and still has when it is written
+fits : (c : tie.After-blank-2048) → 8 * c .before .before .before .before .before .before .args .n ≤ length (c .blank-2048 .result)
+fits c = omega (arith, c .blank-2048 .ensures, c .before .before .before .before .before .before .pre .few)
+
+still-fits : (c : tie.After-prepare) → 8 * c .before .before .before .before .before .before .before .before .args .n ≤ length (c .prepare .last .1 .1 .1 .1 .0 ++ drop (8 * c .before .before .before .before .before .before .before .before .args .n) (c .before .before .blank-2048 .result))
+still-fits c =
+    omega (arith, length-front (c .before .before .blank-2048 .result) (c .prepare .last .1 .1 .1 .1 .0) (8 * c .before .before .before .before .before .before .before .before .args .n) (c .prepare .kept .1 .1 .1 .1 .0), fits (c .before .before))
+
+-- what is written is the prepared circuit
+written : (c : tie.After-prepare)
+    → take (8 * c .before .before .before .before .before .before .before .before .args .n) (c .prepare .last .1 .1 .1 .1 .0 ++ drop (8 * c .before .before .before .before .before .before .before .before .args .n) (c .before .before .blank-2048 .result))
+    ≡ prepared (c .before .before .before .before .before .before .before .before .args .p) (c .before .before .before .before .before .before .before .before .args .n) (lentCircuit (c .before .before .before .before .before .before .before .before .args .n) (c .before .before .before .before .before .before .before .before .args .selectors .now) (c .before .before .before .before .before .before .before .before .args .labels .now))
+written c =
+    take-at (c .prepare .last .1 .1 .1 .1 .0) _ (8 * c .before .before .before .before .before .before .before .before .args .n) (c .prepare .kept .1 .1 .1 .1 .0 ∙ length-take-le _ _ (fits (c .before .before)))
+    ∙ c .prepare .ensures
+
+mul-end : tie.Need-mul-end
+mul-end c = search needs
+
+blank-2048-requires : tie.Need-blank-2048-requires
+blank-2048-requires c κs = search needs
+
+array-borrow-prefix-prepared : tie.Need-array-borrow-prefix-prepared
+array-borrow-prefix-prepared c = search needs
+
+slice-aggregate-prepare : tie.Need-slice-aggregate-prepare
+slice-aggregate-prepare c = sym (length-take-le _ _ (fits (c .before)))
+
+prepare-requires : tie.Need-prepare-requires
+prepare-requires c κs = (c .before .before .before .before .before .before .before .pre .few, c .before .before .before .before .before .before .before .pre .admissible, c .before .before .before .before .before .before .before .pre .circuit-right, length-take-le _ _ (fits (c .before)))
+
+array-share-prefix-prepared : tie.Need-array-share-prefix-prepared
+array-share-prefix-prepared c = still-fits (c .before)
+
+slice-aggregate-check : tie.Need-slice-aggregate-check
+slice-aggregate-check c = sym (length-take-le _ _ (still-fits (c .before .before)))
+
+check-requires : tie.Need-check-requires
+check-requires c κs =
+    let s = c .before .before .before .before .before .before .before .before .before .before in
+    let a = s .args in
+    subst (λ (w : List ℕ). Judgeable (a .p) (a .n) (a .l) (a .publics .now) w (a .transcript .now) (a .challenges .now)) (sym (written (c .before .before))) (judgeable-of (s .pre))
+
+returns : tie.Need-returns
+returns c =
+    let a = c .before .before .before .before .before .before .before .before .before .before .before .args in
+    c .check .ensures ∙ ap (λ (w : List ℕ). judgedAt (a .p) (a .n) (a .publics .now) w (a .transcript .now) (a .challenges .now)) (written (c .before .before .before))
+
+pub judge-spec : {M : Type 1} → statement M
+judge-spec =
+    tie.close
+    (tie.spec
+    mul-end
+    blank-2048-requires
+    array-borrow-prefix-prepared
+    slice-aggregate-prepare
+    prepare-requires
+    array-share-prefix-prepared
+    slice-aggregate-check
+    check-requires
+    returns)

@@ -1,0 +1,49 @@
+-- `archive::work::prepare` meets its contract: what is lent is not turned down. Assumes nothing.
+use mathlib.Core.Path.{sym}
+use Prim.Native.Nat.{_*_, _≤_}
+use native.Mathlib.Omega.{arith}
+use lib.ListN.{length}
+use lib.Seq.{length-take-le}
+use borrow.Author.Needs.{needs}
+use Rattle.archive.specs.Work.{prepared-of}
+use Rattle.archive.proofs.work.prepare.Statement.{statement}
+use Rattle.archive.proofs.work.prepare.Tie as tie
+
+-- the scratch has room
+fits : (c : tie.After-blank-4096) → 16 * c .before .before .before .before .args .n ≤ length (c .blank-4096 .result)
+fits c = omega (arith, c .blank-4096 .ensures, c .before .before .before .before .pre .0)
+
+mul-end : tie.Need-mul-end
+mul-end c = search needs
+
+blank-4096-requires : tie.Need-blank-4096-requires
+blank-4096-requires c κs = search needs
+
+array-borrow-prefix-scratch : tie.Need-array-borrow-prefix-scratch
+array-borrow-prefix-scratch c = search needs
+
+slice-aggregate-prepare : tie.Need-slice-aggregate-prepare
+slice-aggregate-prepare c = sym (length-take-le _ _ (fits (c .before .before)))
+
+prepare-requires : tie.Need-prepare-requires
+prepare-requires c κs = search needs
+
+same-length : tie.Need-same-length
+same-length c = search needs
+
+returns : tie.Need-returns
+returns c =
+    let s = c .before .before .before .before .before .before .before .before .before .before in
+    prepared-of (s .args .selectors .now) (s .args .labels .now) _ _ _ _ _ (s .pre .1) (s .pre .2) (s .pre .3) (length-take-le _ _ (fits (c .before .before .before .before .before .before))) (c .before .before .before .prepare .ensures)
+
+pub prepare-spec : {M : Type 1} → statement M
+prepare-spec =
+    tie.close
+    (tie.spec
+    mul-end
+    blank-4096-requires
+    array-borrow-prefix-scratch
+    slice-aggregate-prepare
+    prepare-requires
+    same-length
+    returns)

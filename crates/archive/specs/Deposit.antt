@@ -1,0 +1,39 @@
+-- The text of a deposit, and what `deposit` promises.
+--
+-- depositText s    the text of a sheet: why it cannot be read, or else the text of its numbers
+-- depositReasons   of `deposit`; the sheet is its first buffer, and the text its second
+-- Deposits         refused: the buffer as it came; accepted: the text, and zeros behind it
+--
+-- Assumes nothing.
+use mathlib.Core.Path.{_≡_}
+use mathlib.Core.Bool.{cond}
+use mathlib.Core.List.{List, [], _∷_, _++_}
+use Prim.Native.Nat.{ℕ, _*_, _-_}
+use lib.ListN.{length, replicate}
+use Rattle.algebra.specs.Lists.{tab}
+use Rattle.field.specs.declared.Answer.{Answer}
+use Rattle.field.specs.Reasons.{Reason, answerOf, isAccepted, badLength}
+use Rattle.sheet.specs.Sheet.{sheetP, sheetN, sheetL, onSelectors, onLabels, onWitness, onPublics, onChallenges, sheetReasons}
+use Rattle.archive.specs.declared.Deposited.{Deposited}
+use Rattle.archive.specs.Printed.{refusedText, textLength, workText}
+
+-- a sheet is read into buffers of the lengths that 256 rows need
+abbrev pub readAnswer : List ℕ → Answer
+readAnswer s = answerOf (sheetReasons s 1280 768 768 256 4)
+
+-- the numbers are those that the definitions read from the sheet, as they are lent
+unfoldable pub depositText : List ℕ → List ℕ
+depositText s =
+    let n : ℕ = sheetN s in
+    let l : ℕ = sheetL s in
+    cond (isAccepted (readAnswer s))
+    (workText (sheetP s) n l (tab (onSelectors s n l) (5 * n)) (tab (onLabels s n l) (3 * n)) (tab (onWitness s n l) (3 * n)) (tab (onPublics s n l) l) (tab (onChallenges s n l) 4))
+    (refusedText (readAnswer s .number) (readAnswer s .detail))
+
+abbrev pub depositReasons : List ℕ → List Reason
+depositReasons text = badLength 2 (length text) textLength ∷ []
+
+pub record Deposits (s text : List ℕ) (r : Deposited) (text' : List ℕ) : Type 0 where
+  pub answer : r .answer ≡ answerOf (depositReasons text)
+  pub long : r .length ≡ cond (isAccepted (r .answer)) (length (depositText s)) 0
+  pub prints : text' ≡ cond (isAccepted (r .answer)) (depositText s ++ replicate (textLength - length (depositText s)) 0) text

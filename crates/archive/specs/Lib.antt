@@ -1,0 +1,8 @@
+-- Definitions, then theorems.
+pub mod Printed
+pub mod Puts
+pub mod Lines
+pub mod Work
+pub mod Deposit
+pub mod Sheets
+pub mod Fits

@@ -1,0 +1,96 @@
+-- The printed text of a deposit (document 01, "The sheet"), in bytes.
+--
+-- LINES
+-- fieldsText vs          a comma and the number in decimal, for each of vs
+-- lineText word vs       the word, its fields, and byte 10
+-- refusedWord, acceptWord, rejectWord   the words `refused`, `accept`, `reject`
+-- letterLine c vs        the line of a polynomial: its letter and its coefficients
+-- refusedText r d        the line of a refusal: its number and its detail
+-- verdictText v          the line of a point verdict
+-- judgedText v           the same for the enum of `check_point`
+-- transcriptText n l     the lines of a, b, c, z, t of a lent transcript
+-- textLength             the length of the lent buffer
+-- THE TEXT OF A DEPOSIT
+-- provedText             the five polynomials and the verdict, of a circuit, public inputs, a witness and beta, gamma, alpha, zeta
+-- workAnswer, workText   of lent numbers: the prover's answer; its refusal, or provedText
+--
+-- Assumes nothing.
+use mathlib.Core.Bool.{cond}
+use mathlib.Core.List.{List, [], _∷_, _++_}
+use Prim.Native.Nat.{ℕ, _*_}
+use lib.ListN.{getD, take, drop, replicate}
+use Rattle.field.specs.declared.Answer.{Answer}
+use Rattle.field.specs.Reasons.{answerOf, isAccepted}
+use Rattle.transform.specs.Transform.{scratchLength}
+use Rattle.circuit.specs.Circuit.{Circuit, lentCircuit, lentPublic, lentWitness}
+use Rattle.circuit.specs.Reasons.{transcriptLength}
+use Rattle.protocol.specs.Protocol.{prepared, wiresOf, zOf, tOf, proved, PointVerdict, accept, reject, part, pointVerdict}
+use Rattle.pointcheck.specs.declared.Judged.{Judged}
+use Rattle.pointcheck.specs.declared.Judged.the-variants.{None, Accept, Reject}
+use Rattle.witnesses.specs.Reasons.{proverReasons}
+use Rattle.text.specs.Text.{decimal}
+
+-- LINES
+
+unfoldable pub fieldsText : List ℕ → List ℕ
+fieldsText [] = []
+fieldsText (v ∷ vs) = 44 ∷ (decimal v ++ fieldsText vs)
+
+abbrev pub lineText : List ℕ → List ℕ → List ℕ
+lineText word vs = word ++ (fieldsText vs ++ (10 ∷ []))
+
+abbrev pub refusedWord : List ℕ
+refusedWord = 114 ∷ 101 ∷ 102 ∷ 117 ∷ 115 ∷ 101 ∷ 100 ∷ []
+
+abbrev pub acceptWord : List ℕ
+acceptWord = 97 ∷ 99 ∷ 99 ∷ 101 ∷ 112 ∷ 116 ∷ []
+
+abbrev pub rejectWord : List ℕ
+rejectWord = 114 ∷ 101 ∷ 106 ∷ 101 ∷ 99 ∷ 116 ∷ []
+
+abbrev pub letterLine : ℕ → List ℕ → List ℕ
+letterLine c vs = lineText (c ∷ []) vs
+
+abbrev pub refusedText : ℕ → ℕ → List ℕ
+refusedText number detail = lineText refusedWord (number ∷ detail ∷ [])
+
+abbrev pub verdictText : PointVerdict → List ℕ
+verdictText accept = acceptWord ++ (10 ∷ [])
+verdictText reject = rejectWord ++ (10 ∷ [])
+
+-- the same of the answer's enum; nothing where there is no verdict
+abbrev pub judgedText : Judged → List ℕ
+judgedText None = []
+judgedText Accept = acceptWord ++ (10 ∷ [])
+judgedText Reject = rejectWord ++ (10 ∷ [])
+
+abbrev pub textLength : ℕ
+textLength = 20480
+
+-- of a lent transcript: a, b, c, z, t
+abbrev pub transcriptText : ℕ → List ℕ → List ℕ
+transcriptText n transcript =
+    letterLine 97 (part n 0 transcript) ++ (letterLine 98 (part n 1 transcript) ++ letterLine 99 (part n 2 transcript))
+    ++ (letterLine 122 (part n 3 transcript) ++ letterLine 116 (drop (4 * n) transcript))
+
+-- THE TEXT OF A DEPOSIT
+
+-- the five polynomials and the point verdict on them, of a circuit, public inputs, a witness and beta, gamma, alpha, zeta
+unfoldable pub provedText : ℕ → ℕ → Circuit → (ℕ → ℕ) → (ℕ → ℕ) → ℕ → ℕ → ℕ → ℕ → List ℕ
+provedText p n C x v beta gamma alpha zeta =
+    letterLine 97 (wiresOf p n v 0) ++ (letterLine 98 (wiresOf p n v 1) ++ letterLine 99 (wiresOf p n v 2))
+    ++ (letterLine 122 (zOf p n C v beta gamma) ++ letterLine 116 (tOf p n C x v beta gamma alpha))
+    ++ verdictText (pointVerdict p n (prepared p n C) x (proved p n C x v beta gamma alpha) beta gamma alpha zeta)
+
+-- the prover's answer for a sheet's numbers; the other two buffers have the lengths that are due
+unfoldable pub workAnswer : (p n l : ℕ) (selectors labels witness publics challenges : List ℕ) → Answer
+workAnswer p n l selectors labels witness publics challenges =
+    answerOf
+    (proverReasons p n l selectors labels witness publics (replicate (transcriptLength n) 0) (take 3 challenges) (replicate (scratchLength n) 0))
+
+unfoldable pub workText : (p n l : ℕ) (selectors labels witness publics challenges : List ℕ) → List ℕ
+workText p n l selectors labels witness publics challenges =
+    let r : Answer = workAnswer p n l selectors labels witness publics challenges in
+    cond (isAccepted r)
+    (provedText p n (lentCircuit n selectors labels) (lentPublic publics) (lentWitness witness) (getD challenges 0 0) (getD challenges 1 0) (getD challenges 2 0) (getD challenges 3 0))
+    (refusedText (r .number) (r .detail))

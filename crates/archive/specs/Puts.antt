@@ -1,0 +1,82 @@
+-- Text that is put into a buffer, run after run.
+--
+-- Puts at bytes out r out'    the bytes stand behind the first `at` bytes of the buffer, and r is where the next byte goes; what stands from r
+--                             on is not told
+-- puts-none, puts-byte, puts-both   no bytes; one byte; one run and then another
+-- word-turn                   a word, one byte more
+-- digits-none, digits-last, digits-more   the last digits of a number: none of them; one digit; those before the last one, and that one
+-- length-fields               fields have at most 11 bytes each
+-- fields-append, fields-more  the fields of two lists of numbers, and of one number more
+-- fields-none, fields-turn    no fields are put; one field more is
+--
+-- Assumes nothing.
+use mathlib.Core.Path.{_≡_, refl, sym, ap, _∙_}
+use mathlib.Core.Logic.{_≢_}
+use mathlib.Core.List.{List, [], _∷_, _++_, append-assoc, append-nil}
+use Prim.Native.Nat.{ℕ, zero, suc, _+_, _*_, _-_, _/_, _%_, _≤_, _<_}
+use native.Mathlib.Numerals.{add-one}
+use native.Mathlib.Omega.{arith}
+use lib.ListN.{length, getD, take, set, length-append}
+use lib.Seq.{take-suc, take-suc-set}
+use Rattle.text.specs.Text.{decimalOf, decimal}
+use Rattle.text.specs.Decimal.{decimal-small, decimal-more, decimal-few}
+use Rattle.archive.specs.Printed.{fieldsText}
+
+pub record Puts (at : ℕ) (bytes out : List ℕ) (r : ℕ) (out' : List ℕ) : Type 0 where
+  pub place : r ≡ at + length bytes
+  pub text : take r out' ≡ take at out ++ bytes
+
+pub puts-none : (at : ℕ) (out : List ℕ) → Puts at [] out at out
+puts-none at out = record { place = omega arith; text = sym (append-nil (take at out)) }
+
+pub puts-byte : (at b : ℕ) (out : List ℕ) → at < length out → Puts at (b ∷ []) out (at + 1) (set out at b)
+puts-byte at b out h = record { place = refl; text = rw add-one (take-suc-set out at b h) }
+
+pub puts-both : {at r s : ℕ} {x y out out' out'' : List ℕ} → Puts at x out r out' → Puts r y out' s out'' → Puts at (x ++ y) out s out''
+puts-both {at} {r} {s} {x} {y} {out} {out'} {out''} P Q =
+    record {
+      place = omega (arith, P .place, Q .place, length-append x y);
+      text = Q .text ∙ ap (λ (l : List ℕ). l ++ y) (P .text) ∙ append-assoc (take at out) x y;
+    }
+
+-- a run that grows by one turn of a loop
+pub word-turn : {at r s : ℕ} {out out' out'' : List ℕ} (w : List ℕ) (i : ℕ) → i < length w
+    → Puts at (take i w) out r out' → Puts r (getD w i 0 ∷ []) out' s out'' → Puts at (take (i + 1) w) out s out''
+word-turn w i h P Q = rw (add-one i, take-suc w i 0 h) (puts-both P Q)
+
+pub digits-none : (m v : ℕ) → m ≡ 0 → decimalOf m v ≡ []
+unfolding decimalOf
+digits-none m v e = rw e
+
+pub digits-last : (m v : ℕ) → m ≢ 0 → v < 10 → decimalOf m v ≡ (48 + v) ∷ []
+digits-last zero v h l = absurd (h refl)
+digits-last (suc m) v h l = decimal-small m v l
+
+pub digits-more : (m v : ℕ) → m ≢ 0 → 10 ≤ v → decimalOf m v ≡ decimalOf (m - 1) (v / 10) ++ ((48 + v % 10) ∷ [])
+digits-more zero v h l = absurd (h refl)
+digits-more (suc m) v h l = let e : suc m - 1 ≡ m = omega arith in rw e (decimal-more m v l)
+
+pub length-fields : (vs : List ℕ) → length (fieldsText vs) ≤ 11 * length vs
+unfolding fieldsText
+length-fields [] = omega arith
+length-fields (v ∷ vs) = omega (arith, length-append (decimal v) (fieldsText vs), decimal-few 10 v, length-fields vs)
+
+pub fields-append : (us vs : List ℕ) → fieldsText (us ++ vs) ≡ fieldsText us ++ fieldsText vs
+unfolding fieldsText
+fields-append [] vs = refl
+fields-append (u ∷ us) vs =
+    ap (λ (l : List ℕ). 44 ∷ l) (ap (λ (l : List ℕ). decimal u ++ l) (fields-append us vs) ∙ sym (append-assoc (decimal u) (fieldsText us) (fieldsText vs)))
+
+pub fields-more : (vs : List ℕ) (i : ℕ) → i < length vs
+    → fieldsText (take (i + 1) vs) ≡ fieldsText (take i vs) ++ (44 ∷ decimal (getD vs i 0))
+unfolding fieldsText
+fields-more vs i h =
+    rw (add-one i, take-suc vs i 0 h, fields-append (take i vs) (getD vs i 0 ∷ []), append-nil (decimal (getD vs i 0)))
+
+pub fields-none : (at : ℕ) (out : List ℕ) → Puts at (fieldsText []) out at out
+unfolding fieldsText
+fields-none at out = puts-none at out
+
+pub fields-turn : {at r s : ℕ} {out out' out'' : List ℕ} (vs : List ℕ) (i : ℕ) → i < length vs
+    → Puts at (fieldsText (take i vs)) out r out' → Puts r (44 ∷ decimal (getD vs i 0)) out' s out'' → Puts at (fieldsText (take (i + 1) vs)) out s out''
+fields-turn vs i h P Q = rw (fields-more vs i h) (puts-both P Q)

@@ -1,0 +1,214 @@
+-- What the functions between the sheet's numbers and the text ask and promise.
+--
+-- Lays            what the prover's part promises: its answer, and the transcript where it accepts
+-- Judgeable       what the point check has to be lent: elements, and as many as are due
+-- Checkable       the same with the circuit in place of the prepared circuit
+-- Workable        two rows up to 256, four challenges that are elements, and a buffer of the text's length
+-- judgedFrom      the point verdict on a transcript, for the prepared circuit of lent selectors and labels
+-- checkedText     the lines of a transcript, and of the verdict on it
+-- THEOREMS
+-- work-reasons    the prover's reasons see no more of transcript and scratch than their lengths
+-- lays-of, laid-of   what `prove` promises is Lays; what is laid where the answer's number is 0
+-- checkable-of    the transcript of an accepted call can be judged
+-- proved-text, refused-text   the text of an accepted call, and of a refused one, is the text of the definitions
+-- prepared-of, judged-of      what `prepare` and `check_point` promise of buffers that they do not turn down
+-- judgeable-of    what can be judged with a circuit can be with the prepared circuit
+-- laid-lines      its lines can be put
+--
+-- Assumes nothing.
+use mathlib.Core.Path.{_≡_, refl, sym, ap, _∙_}
+use mathlib.Core.Logic.{_≢_}
+use mathlib.Core.Bool.{Bool, false, cond}
+use mathlib.Core.List.{List, _++_}
+use Prim.Native.Nat.{ℕ, _≤_, _<_}
+use native.Mathlib.Omega.{arith}
+use lib.ListN.{length, getD, take, replicate, length-replicate}
+use lib.Seq.{getD-take}
+use borrow.Author.Tests.{eq-eqb, ne-eqb}
+use Rattle.algebra.specs.Polynomial.{Elements}
+use Rattle.field.specs.declared.Answer.{Answer}
+use Rattle.field.specs.Fields.{Admissible}
+use Rattle.field.specs.Primes.{field-prime, rows-power}
+use Rattle.field.specs.Reasons.{answerOf, isAccepted}
+use Rattle.transform.specs.Transform.{scratchLength}
+use Rattle.circuit.specs.Circuit.{Circuit, lentCircuit, lentPublic, lentWitness}
+use Rattle.circuit.specs.Reasons.{preparedLength, transcriptLength}
+use Rattle.circuit.specs.Taken.{RightCircuit, RightPublics, prepare-taken, point-taken}
+use Rattle.protocol.specs.Protocol.{prepared, wiresOf, zOf, tOf, proved, PointVerdict, accept, reject, pointVerdict}
+use Rattle.protocol.specs.Layout.{prepared-elements, wire-part, z-part, t-part, proved-elements}
+use Rattle.protocol.specs.Lengths.{interpolation-length}
+use Rattle.preparing.specs.Promises.{Prepares}
+use Rattle.pointcheck.specs.declared.Judged.{Judged}
+use Rattle.pointcheck.specs.declared.Judged.the-variants.{None}
+use Rattle.pointcheck.specs.declared.PointAnswer.{PointAnswer}
+use Rattle.pointcheck.specs.Promises.{judgedAs, judgedAt, PointChecks}
+use Rattle.witnesses.specs.Reasons.{proverReasons}
+use Rattle.witnesses.specs.Accepted.{accepted-of}
+use Rattle.prover.specs.Promises.{provedFrom, Proves}
+use Rattle.archive.specs.Printed.{refusedText, judgedText, verdictText, transcriptText, textLength, provedText, workAnswer, workText}
+use Rattle.archive.specs.Lines.{Laid}
+
+pub record Lays (p n l : ℕ) (selectors labels witness publics challenges transcript : List ℕ) (r : Answer) (transcript' : List ℕ) : Type 0 where
+  pub answer : r ≡ workAnswer p n l selectors labels witness publics challenges
+  pub lays : transcript' ≡ cond (isAccepted r) (provedFrom p n selectors labels witness publics (take 3 challenges)) transcript
+
+pub record Judgeable (p n l : ℕ) (publics prepared transcript challenges : List ℕ) : Type 0 where
+  pub few : n ≤ 256
+  pub admissible : Admissible p n
+  pub publics-right : RightPublics p n l publics
+  pub prepared-right : Elements p (preparedLength n) prepared
+  pub transcript-right : Elements p (transcriptLength n) transcript
+  pub challenges-right : Elements p 4 challenges
+
+pub record Checkable (p n l : ℕ) (selectors labels publics transcript challenges : List ℕ) : Type 0 where
+  pub few : n ≤ 256
+  pub admissible : Admissible p n
+  pub circuit-right : RightCircuit p n selectors labels
+  pub publics-right : RightPublics p n l publics
+  pub transcript-right : Elements p (transcriptLength n) transcript
+  pub challenges-right : Elements p 4 challenges
+
+pub record Workable (p n : ℕ) (challenges text : List ℕ) : Type 0 where
+  pub some : 2 ≤ n
+  pub few : n ≤ 256
+  pub challenges-right : Elements p 4 challenges
+  pub room : length text ≡ textLength
+
+abbrev pub judgedFrom : ℕ → ℕ → List ℕ → List ℕ → List ℕ → List ℕ → List ℕ → Judged
+judgedFrom p n selectors labels publics transcript challenges =
+    judgedAt p n publics (prepared p n (lentCircuit n selectors labels)) transcript challenges
+
+abbrev pub checkedText : ℕ → ℕ → List ℕ → List ℕ → List ℕ → List ℕ → List ℕ → List ℕ
+checkedText p n selectors labels publics transcript challenges =
+    transcriptText n transcript ++ judgedText (judgedFrom p n selectors labels publics transcript challenges)
+
+-- THEOREMS
+
+pub work-reasons : (p n l : ℕ) (selectors labels witness publics transcript challenges scratch : List ℕ)
+    → length transcript ≡ transcriptLength n → length scratch ≡ scratchLength n
+    → answerOf (proverReasons p n l selectors labels witness publics transcript (take 3 challenges) scratch)
+    ≡ workAnswer p n l selectors labels witness publics challenges
+unfolding workAnswer
+work-reasons p n l selectors labels witness publics transcript challenges scratch e f =
+    rw (e, f, length-replicate {A = ℕ} (transcriptLength n) 0, length-replicate {A = ℕ} (scratchLength n) 0)
+
+judged-verdict : (v : PointVerdict) → judgedText (judgedAs v) ≡ verdictText v
+judged-verdict accept = refl
+judged-verdict reject = refl
+
+-- the text of a laid transcript, whatever the transcript is called
+laid-text : (p n : ℕ) (C : Circuit) (x v : ℕ → ℕ) (beta gamma alpha zeta : ℕ)
+    → transcriptText n (proved p n C x v beta gamma alpha)
+    ++ judgedText (judgedAs (pointVerdict p n (prepared p n C) x (proved p n C x v beta gamma alpha) beta gamma alpha zeta))
+    ≡ provedText p n C x v beta gamma alpha zeta
+unfolding provedText
+laid-text p n C x v beta gamma alpha zeta =
+    let z = zOf p n C v beta gamma in
+    let t = tOf p n C x v beta gamma alpha in
+    let lw : (c : ℕ) → c < 3 → length (wiresOf p n v c) ≡ n = λ c h. interpolation-length p n _ in
+    let lz : length z ≡ n = interpolation-length p n _ in
+    rw (
+      wire-part n (wiresOf p n v) z t lw 0 (omega arith),
+      wire-part n (wiresOf p n v) z t lw 1 (omega arith),
+      wire-part n (wiresOf p n v) z t lw 2 (omega arith),
+      z-part n (wiresOf p n v) z t lw lz,
+      t-part n (wiresOf p n v) z t lw lz,
+      judged-verdict (pointVerdict p n (prepared p n C) x (proved p n C x v beta gamma alpha) beta gamma alpha zeta),
+    )
+
+module _ (p n l : ℕ) (selectors labels witness publics challenges : List ℕ) where
+  abbrev laid : List ℕ
+  laid = provedFrom p n selectors labels witness publics (take 3 challenges)
+
+  pub lays-of : (transcript scratch : List ℕ) (r : Answer) (transcript' scratch' : List ℕ)
+      → length transcript ≡ transcriptLength n → length scratch ≡ scratchLength n
+      → Proves p n l selectors labels witness publics transcript (take 3 challenges) scratch r transcript' scratch'
+      → Lays p n l selectors labels witness publics challenges transcript r transcript'
+  lays-of transcript scratch r transcript' scratch' e f P =
+      record {
+        answer = P .answer ∙ work-reasons p n l selectors labels witness publics transcript challenges scratch e f;
+        lays = P .lays;
+      }
+
+  -- what is laid where the answer's number is 0
+  pub laid-of : (transcript : List ℕ) (r : Answer) (transcript' : List ℕ)
+      → Lays p n l selectors labels witness publics challenges transcript r transcript' → r .number ≡ 0
+      → transcript' ≡ provedFrom p n selectors labels witness publics (take 3 challenges)
+  laid-of transcript r transcript' L e =
+      L .lays ∙ ap (λ (b : Bool). cond b laid transcript) (eq-eqb (r .number) 0 e)
+
+  pub checkable-of : (text : List ℕ) → Workable p n challenges text → workAnswer p n l selectors labels witness publics challenges .number ≡ 0
+      → Checkable p n l selectors labels publics (provedFrom p n selectors labels witness publics (take 3 challenges)) challenges
+  unfolding workAnswer
+  checkable-of text W e =
+      let A =
+      accepted-of p n l selectors labels witness publics (replicate (transcriptLength n) 0) (take 3 challenges) (replicate (scratchLength n) 0) e in
+      record {
+        few = W .few;
+        admissible = A .admissible;
+        circuit-right = A .circuit-right;
+        publics-right = A .publics-right;
+        transcript-right =
+            proved-elements p n (lentCircuit n selectors labels) (lentPublic publics) (lentWitness witness) _ _ _
+            (omega (arith, field-prime p (A .admissible .one-of-three) .two))
+            (omega (arith, W .some));
+        challenges-right = W .challenges-right;
+      }
+
+  pub proved-text : workAnswer p n l selectors labels witness publics challenges .number ≡ 0
+      → checkedText p n selectors labels publics (provedFrom p n selectors labels witness publics (take 3 challenges)) challenges
+      ≡ workText p n l selectors labels witness publics challenges
+  unfolding workText
+  proved-text e =
+      rw (
+        getD-take 3 challenges 0 0 (omega arith),
+        getD-take 3 challenges 1 0 (omega arith),
+        getD-take 3 challenges 2 0 (omega arith),
+        eq-eqb (workAnswer p n l selectors labels witness publics challenges .number) 0 e,
+      )
+      (laid-text p n (lentCircuit n selectors labels) (lentPublic publics) (lentWitness witness) (getD challenges 0 0) (getD challenges 1 0) (getD challenges 2 0) (getD challenges 3 0))
+
+  pub refused-text : (r : Answer) → r ≡ workAnswer p n l selectors labels witness publics challenges → r .number ≢ 0
+      → refusedText (r .number) (r .detail) ≡ workText p n l selectors labels witness publics challenges
+  unfolding workText
+  refused-text r e h =
+      let no : isAccepted (workAnswer p n l selectors labels witness publics challenges) ≡ false =
+      ap isAccepted (sym e) ∙ ne-eqb (r .number) 0 h in
+      rw (no, e)
+
+pub prepared-of : {p n : ℕ} (selectors labels written scratch : List ℕ) (r : Answer) (written' scratch' : List ℕ)
+    → Admissible p n → RightCircuit p n selectors labels → length written ≡ preparedLength n → length scratch ≡ scratchLength n
+    → Prepares p n selectors labels written scratch r written' scratch'
+    → written' ≡ prepared p n (lentCircuit n selectors labels)
+prepared-of {p} {n} selectors labels written scratch r written' scratch' A C e f P =
+    P .prepares
+    ∙ ap (λ (a : Answer). cond (isAccepted a) (prepared p n (lentCircuit n selectors labels)) written)
+    (P .answer ∙ prepare-taken A written scratch C e f)
+
+pub judged-of : {p n l : ℕ} {publics prepared transcript challenges : List ℕ} (scratch : List ℕ) (r : PointAnswer) (scratch' : List ℕ)
+    → Judgeable p n l publics prepared transcript challenges → length scratch ≡ scratchLength n
+    → PointChecks p n l publics prepared transcript challenges scratch r scratch'
+    → r .verdict ≡ judgedAt p n publics prepared transcript challenges
+judged-of {p} {n} {l} {publics} {prepared} {transcript} {challenges} scratch r scratch' J e P =
+    P .verdict
+    ∙ ap (λ (a : Answer). cond (isAccepted a) (judgedAt p n publics prepared transcript challenges) None)
+    (P .answer ∙ point-taken (J .admissible) scratch (J .publics-right) (J .prepared-right) (J .transcript-right) (J .challenges-right) e)
+
+pub judgeable-of : {p n l : ℕ} {selectors labels publics transcript challenges : List ℕ}
+    → Checkable p n l selectors labels publics transcript challenges
+    → Judgeable p n l publics (prepared p n (lentCircuit n selectors labels)) transcript challenges
+judgeable-of {p} {n} {l} {selectors} {labels} {publics} {transcript} {challenges} K =
+    record {
+      few = K .few;
+      admissible = K .admissible;
+      publics-right = K .publics-right;
+      prepared-right =
+          prepared-elements p n (lentCircuit n selectors labels) (omega (arith, field-prime p (K .admissible .one-of-three) .two));
+      transcript-right = K .transcript-right;
+      challenges-right = K .challenges-right;
+    }
+
+pub laid-lines : {p n l : ℕ} {selectors labels publics transcript challenges : List ℕ} (text : List ℕ)
+    → Checkable p n l selectors labels publics transcript challenges → length text ≡ textLength → Laid n transcript text
+laid-lines {p} {n} text K e =
+    record { some = rows-power p n (K .admissible .rows) .least; few = K .few; long = K .transcript-right .long; room = e }

@@ -1,0 +1,181 @@
+// From a sheet's numbers to the text: the prover, preparing and the point check, each with a scratch of its own.
+ghost use mathlib.Core.Path.{_≡_};
+ghost use Prim.Native.Nat.{_≤_};
+ghost use lib.ListN.{length};
+ghost use Rattle.field.specs.Fields.{Admissible};
+ghost use Rattle.circuit.specs.Circuit.{lentCircuit};
+ghost use Rattle.circuit.specs.Reasons.{preparedLength, transcriptLength};
+ghost use Rattle.circuit.specs.Taken.{RightCircuit};
+ghost use Rattle.protocol.specs.Protocol.{prepared as Protocol·prepared};
+ghost use Rattle.pointcheck.specs.Promises.{judgedAt};
+ghost use Rattle.archive.specs.Printed.{textLength, workText};
+ghost use Rattle.archive.specs.Puts.{Puts};
+ghost use Rattle.archive.specs.Work.{Lays, Judgeable, Checkable, Workable, judgedFrom, checkedText};
+use crate::blanks;
+use crate::lines::put_judged;
+use crate::lines::put_refused;
+use crate::lines::put_transcript;
+use field::Answer;
+use pointcheck::Judged;
+
+// The transcript, or why the prover turns the numbers down. The first three challenges are beta, gamma, alpha.
+fn lay(
+    p: u32,
+    n: u32,
+    l: u32,
+    selectors: &[u32],
+    labels: &[u32],
+    witness: &[u32],
+    publics: &[u32],
+    transcript: &mut [u32],
+    challenges: &[u32],
+) -> Answer
+    requires { ⌜ (n ≤ 256) × (3 ≤ length (now challenges)) × (length (now transcript) ≡ transcriptLength n) ⌝ }
+    ensures { λ r. ⌜ Lays p n l (now (selectors .entry)) (now (labels .entry)) (now (witness .entry)) (now (publics .entry)) (now (challenges .entry)) (now (transcript .entry)) r (now (transcript .exit)) ⌝ }
+{
+    let m = n as usize;
+    let end = 16 * m;
+    let three = 3;
+    let mut scratch = blanks::blank_4096();
+    prover::prove(
+        p,
+        n,
+        l,
+        selectors,
+        labels,
+        witness,
+        publics,
+        transcript,
+        &challenges[..three],
+        &mut scratch[..end],
+    )
+}
+
+// The prepared circuit.
+fn prepare(p: u32, n: u32, selectors: &[u32], labels: &[u32], prepared: &mut [u32])
+    requires { ⌜ (n ≤ 256) × Admissible p n × RightCircuit p n (now selectors) (now labels) × (length (now prepared) ≡ preparedLength n) ⌝ }
+    ensures { λ _. ⌜ now (prepared .exit) ≡ Protocol·prepared p n (lentCircuit n (now (selectors .entry)) (now (labels .entry))) ⌝ }
+{
+    let m = n as usize;
+    let end = 16 * m;
+    let mut scratch = blanks::blank_4096();
+    preparing::prepare(p, n, selectors, labels, prepared, &mut scratch[..end]);
+}
+
+// The point verdict on a transcript and a prepared circuit.
+fn check(
+    p: u32,
+    n: u32,
+    l: u32,
+    publics: &[u32],
+    prepared: &[u32],
+    transcript: &[u32],
+    challenges: &[u32],
+) -> Judged
+    requires { ⌜ Judgeable p n l (now publics) (now prepared) (now transcript) (now challenges) ⌝ }
+    ensures { λ r. ⌜ r ≡ judgedAt p n (now (publics .entry)) (now (prepared .entry)) (now (transcript .entry)) (now (challenges .entry)) ⌝ }
+{
+    let m = n as usize;
+    let end = 16 * m;
+    let mut scratch = blanks::blank_4096();
+    let answer = pointcheck::check_point(
+        p,
+        n,
+        l,
+        publics,
+        prepared,
+        transcript,
+        challenges,
+        &mut scratch[..end],
+    );
+    answer.verdict
+}
+
+// The point verdict on a transcript and a circuit, which is prepared first.
+fn judge(
+    p: u32,
+    n: u32,
+    l: u32,
+    selectors: &[u32],
+    labels: &[u32],
+    publics: &[u32],
+    transcript: &[u32],
+    challenges: &[u32],
+) -> Judged
+    requires { ⌜ Checkable p n l (now selectors) (now labels) (now publics) (now transcript) (now challenges) ⌝ }
+    ensures { λ r. ⌜ r ≡ judgedFrom p n (now (selectors .entry)) (now (labels .entry)) (now (publics .entry)) (now (transcript .entry)) (now (challenges .entry)) ⌝ }
+{
+    let m = n as usize;
+    let end = 8 * m;
+    let mut prepared = field::blank_2048();
+    prepare(p, n, selectors, labels, &mut prepared[..end]);
+    check(p, n, l, publics, &prepared[..end], transcript, challenges)
+}
+
+// The text of a transcript: its five polynomials, and the point verdict.
+fn print_checked(
+    p: u32,
+    n: u32,
+    l: u32,
+    selectors: &[u32],
+    labels: &[u32],
+    publics: &[u32],
+    transcript: &[u32],
+    challenges: &[u32],
+    text: &mut [u8],
+) -> usize
+    requires { ⌜ Checkable p n l (now selectors) (now labels) (now publics) (now transcript) (now challenges) × (length (now text) ≡ textLength) ⌝ }
+    ensures { λ r. ⌜ Puts 0 (checkedText p n (now (selectors .entry)) (now (labels .entry)) (now (publics .entry)) (now (transcript .entry)) (now (challenges .entry))) (now (text .entry)) r (now (text .exit)) ⌝ }
+{
+    let m = n as usize;
+    let verdict = judge(p, n, l, selectors, labels, publics, transcript, challenges);
+    let next = put_transcript(m, transcript, text);
+    put_judged(verdict, text, next)
+}
+
+// The text of a sheet's numbers: the prover's refusal, or what it laid and the point verdict on that.
+pub fn print_work(
+    p: u32,
+    n: u32,
+    l: u32,
+    selectors: &[u32],
+    labels: &[u32],
+    witness: &[u32],
+    publics: &[u32],
+    challenges: &[u32],
+    text: &mut [u8],
+) -> usize
+    requires { ⌜ Workable p n (now challenges) (now text) ⌝ }
+    ensures { λ r. ⌜ Puts 0 (workText p n l (now (selectors .entry)) (now (labels .entry)) (now (witness .entry)) (now (publics .entry)) (now (challenges .entry))) (now (text .entry)) r (now (text .exit)) ⌝ }
+{
+    let m = n as usize;
+    let end = 7 * m - 3;
+    let mut transcript = field::blank_2048();
+    let answer = lay(
+        p,
+        n,
+        l,
+        selectors,
+        labels,
+        witness,
+        publics,
+        &mut transcript[..end],
+        challenges,
+    );
+    let number = answer.number;
+    let detail = answer.detail;
+    if number == 0 {
+        return print_checked(
+            p,
+            n,
+            l,
+            selectors,
+            labels,
+            publics,
+            &transcript[..end],
+            challenges,
+            text,
+        );
+    }
+    put_refused(number, detail, text)
+}

@@ -1,0 +1,24 @@
+-- `exports::guppyspoon_deposit` meets its contract: the length of a text fits into a word. Assumes nothing.
+use Rattle.archive.specs.Fits.{deposit-fits}
+use borrow.Author.Needs.{needs}
+use Rattle.exports.proofs.guppyspoon_deposit.Statement.{statement}
+use Rattle.exports.proofs.guppyspoon_deposit.Tie as tie
+
+deposit-requires : tie.Need-deposit-requires
+deposit-requires c κs = search needs
+
+put-deposited-requires : tie.Need-put-deposited-requires
+put-deposited-requires c κs = deposit-fits _ _ _ _ (c .before .before .before .deposit .ensures)
+
+same-length : tie.Need-same-length
+same-length c = search needs
+
+same-length-2 : tie.Need-same-length-2
+same-length-2 c = search needs
+
+returns : tie.Need-returns
+returns c = search needs
+
+pub guppyspoon-deposit-spec : {M : Type 1} → statement M
+guppyspoon-deposit-spec =
+    tie.close (tie.spec deposit-requires put-deposited-requires same-length same-length-2 returns)

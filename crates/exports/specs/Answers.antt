@@ -1,0 +1,80 @@
+-- How an answer is handed to a caller in C or Rust: as words at the start of a lent buffer.
+--
+-- over words buffer     the words over the start of a buffer, as many as it has room for; the rest of the buffer as it was
+-- answerWords r         number and detail
+-- invertedWords r       number, detail and the value
+-- identityWord id       the word of a failing identity: 2 gate, 3 start, 4 step
+-- verdictWord v         the word of a row verdict: 0 none, 1 pass, or that of the identity that fails
+-- verdictRow v          the row that fails; 0 where none does
+-- rowWords r            number, detail, the word of the verdict and its row
+-- judgedWord v          the word of a point verdict: 0 none, 1 accept, 2 reject
+-- pointWords r          number, detail and the word of the verdict
+-- sheetWords r          number, detail, p, n and l
+-- depositedWords r      number, detail and the length of the text
+-- Handed words promise buffer buffer'   the call was made, its answer keeps the call's own promise, and its words stand in the buffer
+--
+-- Assumes nothing.
+use mathlib.Core.Path.{_≡_}
+use mathlib.Core.List.{List, [], _∷_}
+use Prim.Native.Nat.{ℕ}
+use Rattle.field.specs.declared.Answer.{Answer}
+use Rattle.field.specs.declared.Inverted.{Inverted}
+use Rattle.rowcheck.specs.declared.Identity.{Identity}
+use Rattle.rowcheck.specs.declared.Identity.the-variants.{Gate, Start, Step}
+use Rattle.rowcheck.specs.declared.Verdict.{Verdict}
+use Rattle.rowcheck.specs.declared.Verdict.the-variants.{None, Pass, Fails}
+use Rattle.rowcheck.specs.declared.RowAnswer.{RowAnswer}
+use Rattle.pointcheck.specs.declared.Judged.{Judged}
+use Rattle.pointcheck.specs.declared.Judged.the-variants as judged
+use Rattle.pointcheck.specs.declared.PointAnswer.{PointAnswer}
+use Rattle.sheet.specs.declared.SheetAnswer.{SheetAnswer}
+use Rattle.archive.specs.declared.Deposited.{Deposited}
+
+abbrev pub over : List ℕ → List ℕ → List ℕ
+over [] buffer = buffer
+over (x ∷ words) [] = []
+over (x ∷ words) (y ∷ buffer) = x ∷ over words buffer
+
+abbrev pub answerWords : Answer → List ℕ
+answerWords r = r .number ∷ r .detail ∷ []
+
+abbrev pub invertedWords : Inverted → List ℕ
+invertedWords r = r .answer .number ∷ r .answer .detail ∷ r .value ∷ []
+
+abbrev pub identityWord : Identity → ℕ
+identityWord Gate = 2
+identityWord Start = 3
+identityWord Step = 4
+
+abbrev pub verdictWord : Verdict → ℕ
+verdictWord None = 0
+verdictWord Pass = 1
+verdictWord (Fails id row) = identityWord id
+
+abbrev pub verdictRow : Verdict → ℕ
+verdictRow None = 0
+verdictRow Pass = 0
+verdictRow (Fails id row) = row
+
+abbrev pub rowWords : RowAnswer → List ℕ
+rowWords r = r .answer .number ∷ r .answer .detail ∷ verdictWord (r .verdict) ∷ verdictRow (r .verdict) ∷ []
+
+abbrev pub judgedWord : Judged → ℕ
+judgedWord judged.None = 0
+judgedWord judged.Accept = 1
+judgedWord judged.Reject = 2
+
+abbrev pub pointWords : PointAnswer → List ℕ
+pointWords r = r .answer .number ∷ r .answer .detail ∷ judgedWord (r .verdict) ∷ []
+
+abbrev pub sheetWords : SheetAnswer → List ℕ
+sheetWords r = r .answer .number ∷ r .answer .detail ∷ r .p ∷ r .n ∷ r .l ∷ []
+
+abbrev pub depositedWords : Deposited → List ℕ
+depositedWords r = r .answer .number ∷ r .answer .detail ∷ r .length ∷ []
+
+-- the promise fixes the answer, and so the words
+pub record Handed {R : Type 0} (words : R → List ℕ) (promise : R → Type 0) (buffer buffer' : List ℕ) : Type 0 where
+  pub result : R
+  pub promised : promise result
+  pub written : buffer' ≡ over (words result) buffer

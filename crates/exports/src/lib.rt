@@ -1,0 +1,201 @@
+// The public calls for callers in C and Rust, each under its plain name.
+//
+// Numbers are passed as themselves. A slice is passed as two arguments, a pointer to its first number and its length in numbers (bytes
+// for a sheet and a text, words else):
+//
+//   void guppyspoon_inverse(uint32_t p, uint32_t x, uint32_t *answer, size_t answer_length);
+//
+// No slice may overlap one that is written. Nothing is returned. The answer's words are written to `answer`, the last slice of each call: number
+// and detail, and then
+//
+//   guppyspoon_inverse       the value
+//   guppyspoon_check_rows    0 none, 1 pass, 2 gate, 3 start, 4 step; and the row that fails, or 0
+//   guppyspoon_check_point   0 none, 1 accept, 2 reject
+//   guppyspoon_read          p, n and l
+//   guppyspoon_deposit       the number of bytes of the text
+//
+// The answer may have any length. The call is made in any case: of its words as many are written as there is room for, and what stands behind
+// them is left as it was.
+ghost use Rattle.algebra.specs.Polynomial.{coef};
+ghost use Rattle.field.specs.Reasons.{Inverts};
+ghost use Rattle.transform.specs.Transform.{evaluation, interpolation, Transforms};
+ghost use Rattle.circuit.specs.Promises.{Permutes};
+ghost use Rattle.preparing.specs.Promises.{Prepares};
+ghost use Rattle.rowcheck.specs.Promises.{ChecksRows};
+ghost use Rattle.pointcheck.specs.Promises.{PointChecks};
+ghost use Rattle.prover.specs.Promises.{Proves};
+ghost use Rattle.sheet.specs.Promises.{Reads};
+ghost use Rattle.archive.specs.Deposit.{Deposits};
+ghost use Rattle.exports.specs.Answers.{answerWords, invertedWords, rowWords, pointWords, sheetWords, depositedWords, Handed};
+
+mod words;
+
+// `field::inverse`: the inverse of x modulo p.
+#[no_mangle]
+pub extern "C" fn guppyspoon_inverse(p: u32, x: u32, answer: &mut [u32])
+    ensures { λ _. ⌜ Handed invertedWords (λ r. Inverts p x r) (now (answer .entry)) (now (answer .exit)) ⌝ }
+{
+    let r = field::inverse(p, x);
+    words::put_inverted(r, answer);
+}
+
+// `transform::evaluate`: the values of a polynomial of n coefficients at the n domain points.
+#[no_mangle]
+pub extern "C" fn guppyspoon_evaluate(
+    p: u32,
+    n: u32,
+    coefficients: &[u32],
+    values: &mut [u32],
+    scratch: &mut [u32],
+    answer: &mut [u32],
+)
+    ensures { λ _. ⌜ Handed answerWords (λ r. Transforms p n (evaluation p n) (now (coefficients .entry)) (now (values .entry)) (now (scratch .entry)) r (now (values .exit)) (now (scratch .exit))) (now (answer .entry)) (now (answer .exit)) ⌝ }
+{
+    let r = transform::evaluate(p, n, coefficients, values, scratch);
+    words::put_answer(r, answer);
+}
+
+// `transform::interpolate`: the one polynomial of n coefficients with the given values at the n domain points.
+#[no_mangle]
+pub extern "C" fn guppyspoon_interpolate(
+    p: u32,
+    n: u32,
+    values: &[u32],
+    coefficients: &mut [u32],
+    scratch: &mut [u32],
+    answer: &mut [u32],
+)
+    ensures { λ _. ⌜ Handed answerWords (λ r. Transforms p n (λ v. interpolation p n (coef v)) (now (values .entry)) (now (coefficients .entry)) (now (scratch .entry)) r (now (coefficients .exit)) (now (scratch .exit))) (now (answer .entry)) (now (answer .exit)) ⌝ }
+{
+    let r = transform::interpolate(p, n, values, coefficients, scratch);
+    words::put_answer(r, answer);
+}
+
+// `circuit::permutation`: the position that the copy permutation leads to from each of the 3n positions.
+#[no_mangle]
+pub extern "C" fn guppyspoon_permutation(
+    p: u32,
+    n: u32,
+    labels: &[u32],
+    positions: &mut [u32],
+    answer: &mut [u32],
+)
+    ensures { λ _. ⌜ Handed answerWords (λ r. Permutes p n (now (labels .entry)) (now (positions .entry)) r (now (positions .exit))) (now (answer .entry)) (now (answer .exit)) ⌝ }
+{
+    let r = circuit::permutation(p, n, labels, positions);
+    words::put_answer(r, answer);
+}
+
+// `preparing::prepare`: the prepared circuit.
+#[no_mangle]
+pub extern "C" fn guppyspoon_prepare(
+    p: u32,
+    n: u32,
+    selectors: &[u32],
+    labels: &[u32],
+    written: &mut [u32],
+    scratch: &mut [u32],
+    answer: &mut [u32],
+)
+    ensures { λ _. ⌜ Handed answerWords (λ r. Prepares p n (now (selectors .entry)) (now (labels .entry)) (now (written .entry)) (now (scratch .entry)) r (now (written .exit)) (now (scratch .exit))) (now (answer .entry)) (now (answer .exit)) ⌝ }
+{
+    let r = preparing::prepare(p, n, selectors, labels, written, scratch);
+    words::put_answer(r, answer);
+}
+
+// `rowcheck::check_rows`: whether the three identities hold at every row, and where not, at which first.
+#[no_mangle]
+pub extern "C" fn guppyspoon_check_rows(
+    p: u32,
+    n: u32,
+    l: u32,
+    selectors: &[u32],
+    labels: &[u32],
+    witness: &[u32],
+    publics: &[u32],
+    z: &[u32],
+    challenges: &[u32],
+    answer: &mut [u32],
+)
+    ensures { λ _. ⌜ Handed rowWords (λ r. ChecksRows p n l (now (selectors .entry)) (now (labels .entry)) (now (witness .entry)) (now (publics .entry)) (now (z .entry)) (now (challenges .entry)) r) (now (answer .entry)) (now (answer .exit)) ⌝ }
+{
+    let r = rowcheck::check_rows(p, n, l, selectors, labels, witness, publics, z, challenges);
+    words::put_rows(r, answer);
+}
+
+// `pointcheck::check_point`: whether a lent transcript answers for a prepared circuit at one point.
+#[no_mangle]
+pub extern "C" fn guppyspoon_check_point(
+    p: u32,
+    n: u32,
+    l: u32,
+    publics: &[u32],
+    prepared: &[u32],
+    transcript: &[u32],
+    challenges: &[u32],
+    scratch: &mut [u32],
+    answer: &mut [u32],
+)
+    ensures { λ _. ⌜ Handed pointWords (λ r. PointChecks p n l (now (publics .entry)) (now (prepared .entry)) (now (transcript .entry)) (now (challenges .entry)) (now (scratch .entry)) r (now (scratch .exit))) (now (answer .entry)) (now (answer .exit)) ⌝ }
+{
+    let r = pointcheck::check_point(p, n, l, publics, prepared, transcript, challenges, scratch);
+    words::put_point(r, answer);
+}
+
+// `prover::prove`: the transcript a, b, c, z, t of a witness that satisfies its circuit.
+#[no_mangle]
+pub extern "C" fn guppyspoon_prove(
+    p: u32,
+    n: u32,
+    l: u32,
+    selectors: &[u32],
+    labels: &[u32],
+    witness: &[u32],
+    publics: &[u32],
+    transcript: &mut [u32],
+    challenges: &[u32],
+    scratch: &mut [u32],
+    answer: &mut [u32],
+)
+    ensures { λ _. ⌜ Handed answerWords (λ r. Proves p n l (now (selectors .entry)) (now (labels .entry)) (now (witness .entry)) (now (publics .entry)) (now (transcript .entry)) (now (challenges .entry)) (now (scratch .entry)) r (now (transcript .exit)) (now (scratch .exit))) (now (answer .entry)) (now (answer .exit)) ⌝ }
+{
+    let r = prover::prove(
+        p,
+        n,
+        l,
+        selectors,
+        labels,
+        witness,
+        publics,
+        transcript,
+        challenges,
+        scratch,
+    );
+    words::put_answer(r, answer);
+}
+
+// `sheet::read`: the numbers of a sheet, laid out as they are lent for 256 rows.
+#[no_mangle]
+pub extern "C" fn guppyspoon_read(
+    sheet: &[u8],
+    selectors: &mut [u32],
+    labels: &mut [u32],
+    witness: &mut [u32],
+    publics: &mut [u32],
+    challenges: &mut [u32],
+    answer: &mut [u32],
+)
+    ensures { λ _. ⌜ Handed sheetWords (λ r. Reads (now (sheet .entry)) (now (selectors .entry)) (now (labels .entry)) (now (witness .entry)) (now (publics .entry)) (now (challenges .entry)) r (now (selectors .exit)) (now (labels .exit)) (now (witness .exit)) (now (publics .exit)) (now (challenges .exit))) (now (answer .entry)) (now (answer .exit)) ⌝ }
+{
+    let r = sheet::read(sheet, selectors, labels, witness, publics, challenges);
+    words::put_sheet(r, answer);
+}
+
+// `archive::deposit`: the text of a sheet's deposit.
+#[no_mangle]
+pub extern "C" fn guppyspoon_deposit(sheet: &[u8], text: &mut [u8], answer: &mut [u32])
+    ensures { λ _. ⌜ Handed depositedWords (λ r. Deposits (now (sheet .entry)) (now (text .entry)) r (now (text .exit))) (now (answer .entry)) (now (answer .exit)) ⌝ }
+{
+    let r = archive::deposit(sheet, text);
+    words::put_deposited(r, answer);
+}

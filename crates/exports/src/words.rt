@@ -1,0 +1,127 @@
+// Answers as words at the start of a lent buffer. A word for which the buffer has no room is left out.
+ghost use mathlib.Core.Path.{_≡_};
+ghost use Prim.Native.Nat.{_≤_};
+ghost use lib.ListN.{set};
+ghost use Rattle.archive.specs.Printed.{textLength};
+ghost use Rattle.exports.specs.Answers.{over, answerWords, invertedWords, identityWord, verdictWord, verdictRow, rowWords, judgedWord, pointWords, sheetWords, depositedWords};
+use archive::Deposited;
+use field::Answer;
+use field::Inverted;
+use pointcheck::Judged;
+use pointcheck::PointAnswer;
+use rowcheck::Identity;
+use rowcheck::RowAnswer;
+use rowcheck::Verdict;
+use sheet::SheetAnswer;
+
+// x at a place of the buffer, where it has that place.
+fn put(buffer: &mut [u32], place: usize, x: u32)
+    ensures { λ _. ⌜ now (buffer .exit) ≡ set (now (buffer .entry)) place x ⌝ }
+{
+    if place < buffer.len() {
+        buffer[place] = x;
+    }
+}
+
+// The number and the detail.
+pub fn put_answer(r: Answer, buffer: &mut [u32])
+    ensures { λ _. ⌜ now (buffer .exit) ≡ over (answerWords r) (now (buffer .entry)) ⌝ }
+{
+    put(buffer, 0, r.number);
+    put(buffer, 1, r.detail);
+}
+
+// The number, the detail and the value.
+pub fn put_inverted(r: Inverted, buffer: &mut [u32])
+    ensures { λ _. ⌜ now (buffer .exit) ≡ over (invertedWords r) (now (buffer .entry)) ⌝ }
+{
+    let a = r.answer;
+    put_answer(a, buffer);
+    put(buffer, 2, r.value);
+}
+
+// The word of a failing identity.
+fn identity_word(id: Identity) -> u32
+    ensures { λ r. ⌜ r ≡ identityWord id ⌝ }
+{
+    match id {
+        Identity::Gate => 2,
+        Identity::Start => 3,
+        Identity::Step => 4,
+    }
+}
+
+// The word of a row verdict.
+fn verdict_word(v: Verdict) -> u32
+    ensures { λ r. ⌜ r ≡ verdictWord v ⌝ }
+{
+    match v {
+        Verdict::None => 0,
+        Verdict::Pass => 1,
+        Verdict::Fails(id, _) => identity_word(id),
+    }
+}
+
+// The row of a row verdict; 0 where no row fails.
+fn verdict_row(v: Verdict) -> u32
+    ensures { λ r. ⌜ r ≡ verdictRow v ⌝ }
+{
+    match v {
+        Verdict::None => 0,
+        Verdict::Pass => 0,
+        Verdict::Fails(_, row) => row,
+    }
+}
+
+// The number, the detail, the word of the verdict and its row.
+pub fn put_rows(r: RowAnswer, buffer: &mut [u32])
+    ensures { λ _. ⌜ now (buffer .exit) ≡ over (rowWords r) (now (buffer .entry)) ⌝ }
+{
+    let a = r.answer;
+    let v = r.verdict;
+    put_answer(a, buffer);
+    put(buffer, 2, verdict_word(v));
+    put(buffer, 3, verdict_row(v));
+}
+
+// The word of a point verdict.
+fn judged_word(v: Judged) -> u32
+    ensures { λ r. ⌜ r ≡ judgedWord v ⌝ }
+{
+    match v {
+        Judged::None => 0,
+        Judged::Accept => 1,
+        Judged::Reject => 2,
+    }
+}
+
+// The number, the detail and the word of the verdict.
+pub fn put_point(r: PointAnswer, buffer: &mut [u32])
+    ensures { λ _. ⌜ now (buffer .exit) ≡ over (pointWords r) (now (buffer .entry)) ⌝ }
+{
+    let a = r.answer;
+    let v = r.verdict;
+    put_answer(a, buffer);
+    put(buffer, 2, judged_word(v));
+}
+
+// The number, the detail, p, n and l.
+pub fn put_sheet(r: SheetAnswer, buffer: &mut [u32])
+    ensures { λ _. ⌜ now (buffer .exit) ≡ over (sheetWords r) (now (buffer .entry)) ⌝ }
+{
+    let a = r.answer;
+    put_answer(a, buffer);
+    put(buffer, 2, r.p);
+    put(buffer, 3, r.n);
+    put(buffer, 4, r.l);
+}
+
+// The number, the detail and the length, which a word has room for.
+pub fn put_deposited(r: Deposited, buffer: &mut [u32])
+    requires { ⌜ r .length ≤ textLength ⌝ }
+    ensures { λ _. ⌜ now (buffer .exit) ≡ over (depositedWords r) (now (buffer .entry)) ⌝ }
+{
+    let a = r.answer;
+    put_answer(a, buffer);
+    put(buffer, 2, r.length as u32);
+}
