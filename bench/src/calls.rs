@@ -36,12 +36,10 @@ extern "C" {
     );
     fn guppyspoon_read(
         sheet: *const u8, sheet_length: usize, selectors: *mut u32, selectors_length: usize, labels: *mut u32, labels_length: usize,
-        witness: *mut u32, witness_length: usize, publics: *mut u32, publics_length: usize, challenges: *mut u32,
-        challenges_length: usize, answer: *mut u32, answer_length: usize,
+        witness: *mut u32, witness_length: usize, publics: *mut u32, publics_length: usize, challenges: *mut u32, challenges_length: usize,
+        answer: *mut u32, answer_length: usize,
     );
-    fn guppyspoon_deposit(
-        sheet: *const u8, sheet_length: usize, text: *mut u8, text_length: usize, answer: *mut u32, answer_length: usize,
-    );
+    fn guppyspoon_deposit(sheet: *const u8, sheet_length: usize, text: *mut u8, text_length: usize, answer: *mut u32, answer_length: usize);
 }
 
 // Each slice is lent whole, and those that are written do not overlap another, as Rust's borrows see to.

@@ -102,14 +102,9 @@ fn measure_deposit(n: u32, sheet: &[u8]) {
     let mut one = vec![0; TEXT];
     let mut other = one.clone();
     let mut answer = [0; 3];
-    measure(
-        "Deposit",
-        n,
-        &mut || calls::deposit(black_box(sheet), black_box(&mut one), black_box(&mut answer)),
-        &mut || {
-            black_box(sheets::deposit(black_box(sheet), black_box(&mut other)));
-        },
-    );
+    measure("Deposit", n, &mut || calls::deposit(black_box(sheet), black_box(&mut one), black_box(&mut answer)), &mut || {
+        black_box(sheets::deposit(black_box(sheet), black_box(&mut other)));
+    });
     assert!(answer[0] == 0 && one == other);
 }
 

@@ -49,7 +49,9 @@ fn field(r: &mut Random, p: u32, n: u32) -> Vec<u8> {
         0 => any.to_string().into_bytes(),
         1 => (u32::MAX as u64 + r.below(3) as u64).to_string().into_bytes(),
         2 => format!("0{near}").into_bytes(),
-        3 => r.pick(&[&b""[..], b"00", b"-1", b"+1", b" 1", b"1 ", b"0x1", b"1.0", b"4294967296", b"42949672950", b"18446744073709551616"]).to_vec(),
+        3 => r
+            .pick(&[&b""[..], b"00", b"-1", b"+1", b" 1", b"1 ", b"0x1", b"1.0", b"4294967296", b"42949672950", b"18446744073709551616"])
+            .to_vec(),
         4 => {
             let length = r.pick(&[9, 10, 11, 19, 20, 21, 40, 300]);
             digits(r, length)
