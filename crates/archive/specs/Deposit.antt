@@ -1,5 +1,6 @@
 -- The text of a deposit, and what `deposit` promises.
 --
+-- readAnswer s     the answer of reading the sheet into buffers of the right lengths
 -- depositText s    the text of a sheet: why it cannot be read, or else the text of its numbers
 -- depositReasons   of `deposit`; the sheet is its first buffer, and the text its second
 -- Deposits         refused: the buffer as it came; accepted: the text, and zeros behind it

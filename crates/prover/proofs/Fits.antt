@@ -1,7 +1,7 @@
 -- The parts that are lent fit into their buffers, and what the buffers are when they come back.
 --
 -- front-fits, spare-fits   a, b, c and z fit into the transcript, n words into the scratch
--- filling-fits, prepared-fits, room-fits   6n words into the scratch; the prepared circuit and the domain points into their arrays
+-- filling-fits, prepared-fits, room-fits, laid-fits   6n words into the scratch; the prepared circuit and the domain points into their arrays; 4n words into the transcript
 -- rest-put          the rest of a list behind its front, replaced
 -- rest-long         the words behind a, b, c and z are as many as t has
 -- laid-length       a, b, c and z are 4n numbers

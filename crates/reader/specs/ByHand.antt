@@ -5,11 +5,11 @@
 --
 -- Assumes nothing.
 use mathlib.Core.Path.{_≡_, refl}
-use mathlib.Core.List.{List, [], _∷_}
-use Prim.Native.Nat.{ℕ}
+use mathlib.Core.List.{List, [], _∷_, _++_}
+use Prim.Native.Nat.{ℕ, _+_}
 use Rattle.algebra.specs.Lists.{tab, All}
 use Rattle.algebra.specs.Modular.{powF, first, inverse}
-use Rattle.algebra.specs.Polynomial.{mulP, dilate, reduced, remainderVanishing}
+use Rattle.algebra.specs.Polynomial.{addP, mulP, dilate, reduced, remainderVanishing}
 use Rattle.field.specs.Fields.{generator, root, point, multiplier, tag}
 use Rattle.transform.specs.Transform.{interpolation}
 use Rattle.circuit.specs.Circuit.{permutation}
@@ -28,6 +28,13 @@ z = zOf 17 2 circuit witness 1 1
 abbrev x : List ℕ
 x = interpolation 17 2 publics
 
+-- the factors of N and D at column c, beta and gamma being 1
+abbrev upper : ℕ → List ℕ
+upper c = addP (wire c) (1 ∷ multiplier 17 c ∷ [])
+
+abbrev lower : ℕ → List ℕ
+lower c = addP (addP (wire c) (pre (5 + c))) (1 ∷ [])
+
 abbrev F : List ℕ
 F = polyF 17 2 pre wire x z 1 1 2
 
@@ -43,12 +50,15 @@ table =
     ∷ record { what = "qO × c"; is = numbers (reduced 17 3 (mulP (pre 2) (wire 2))); should = numbers (8 ∷ 3 ∷ 0 ∷ []) }
     ∷ record { what = "qM × a × b"; is = numbers (reduced 17 4 (mulP (mulP (pre 3) (wire 0)) (wire 1))); should = numbers (9 ∷ 10 ∷ 11 ∷ 10 ∷ []) }
     ∷ record { what = "gate"; is = numbers (reduced 17 4 (gatePart 17 pre wire x)); should = numbers (0 ∷ 7 ∷ 0 ∷ 10 ∷ []) }
+    ∷ record { what = "factors of N"; is = numbers (reduced 17 2 (upper 0) ++ (reduced 17 2 (upper 1) ++ reduced 17 2 (upper 2))); should = numbers (5 ∷ 16 ∷ 14 ∷ 10 ∷ 10 ∷ 6 ∷ []) }
+    ∷ record { what = "factors of D"; is = numbers (reduced 17 2 (lower 0) ++ (reduced 17 2 (lower 1) ++ reduced 17 2 (lower 2))); should = numbers (4 ∷ 0 ∷ 3 ∷ 4 ∷ 5 ∷ 1 ∷ []) }
     ∷ record { what = "N"; is = numbers (reduced 17 4 (polyN 17 wire 1 1)); should = numbers (3 ∷ 15 ∷ 14 ∷ 8 ∷ []) }
     ∷ record { what = "D"; is = numbers (reduced 17 4 (polyD pre wire 1 1)); should = numbers (9 ∷ 7 ∷ 16 ∷ 0 ∷ []) }
     ∷ record { what = "z × N"; is = numbers (reduced 17 5 (mulP z (polyN 17 wire 1 1))); should = numbers (14 ∷ 8 ∷ 16 ∷ 3 ∷ 16 ∷ []) }
     ∷ record { what = "z(wX)"; is = numbers (reduced 17 2 (dilate (root 17 2) z)); should = numbers (16 ∷ 15 ∷ []) }
     ∷ record { what = "z(wX) × D"; is = numbers (reduced 17 5 (mulP (dilate (root 17 2) z) (polyD pre wire 1 1))); should = numbers (8 ∷ 9 ∷ 4 ∷ 2 ∷ 0 ∷ []) }
     ∷ record { what = "their difference"; is = numbers (reduced 17 5 (stepPart 17 2 pre wire z 1 1)); should = numbers (6 ∷ 16 ∷ 12 ∷ 1 ∷ 16 ∷ []) }
+    ∷ record { what = "z - 1"; is = numbers (reduced 17 2 (addP z (16 ∷ []))); should = numbers (15 ∷ 2 ∷ []) }
     ∷ record { what = "L"; is = numbers (polyL 17 2); should = numbers (9 ∷ 9 ∷ []) }
     ∷ record { what = "(z - 1) × L"; is = numbers (reduced 17 3 (startPart 17 2 z)); should = numbers (16 ∷ 0 ∷ 1 ∷ []) }
     ∷ record { what = "F"; is = numbers (reduced 17 5 F); should = numbers (8 ∷ 5 ∷ 11 ∷ 12 ∷ 15 ∷ []) }
@@ -57,4 +67,4 @@ table =
 
 pub by-hand : All (λ r. r .is ≡ r .should) table
 unfolding tab powF first inverse reduced remainderVanishing generator root point multiplier tag interpolation permutation rowN rowD rowZ polyN polyD polyL gatePart stepPart startPart polyF prepared
-by-hand = refl & refl & refl & refl & refl & refl & refl & refl & refl & refl & refl & refl & refl & refl & refl & refl & refl & refl & refl & refl & tt
+by-hand = refl & refl & refl & refl & refl & refl & refl & refl & refl & refl & refl & refl & refl & refl & refl & refl & refl & refl & refl & refl & refl & refl & refl & tt

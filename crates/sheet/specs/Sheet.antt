@@ -13,6 +13,7 @@
 -- padded m f count     count numbers, and zeros behind them up to m
 -- REASONS
 -- tooLong s            the sheet has more than 65,536 bytes
+-- sheetElements s n l  the elements in the order of 7
 -- sheetReasons         of `read`, for the lengths of the five lent buffers
 --
 -- Assumes nothing.

@@ -11,6 +11,7 @@
 -- isFieldAt          field j of a line of k is a number with its closing byte
 -- isLineAt s at k    a line of k numbers starts at `at`
 -- WRITING
+-- decimalOf most v   the digits of v, at most `most` of them
 -- decimal v          v in decimal, without leading zeros, for v below 2^32
 -- fieldsOf, lineOf vs   the numbers vs with commas between them; the same with byte 10 behind
 --
