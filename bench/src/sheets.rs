@@ -1,4 +1,5 @@
 // The sheet of document 01: reading one, and the text of a deposit, written plainly from the document.
+use crate::cases::Circuit;
 use crate::plain::{self, admitted, elements, few, labelled, lengths, Refusal};
 use std::fmt::Write;
 
@@ -6,18 +7,6 @@ pub const LONGEST: usize = 65536;
 pub const MOST_ROWS: u32 = 256;
 pub const LENGTHS: [usize; 5] = [1280, 768, 768, 256, 4];
 pub const TEXT: usize = 20480;
-
-// A sheet's numbers as they are lent.
-pub struct Sheet {
-    pub p: u32,
-    pub n: u32,
-    pub l: u32,
-    pub selectors: Vec<u32>,
-    pub labels: Vec<u32>,
-    pub contents: Vec<u32>,
-    pub publics: Vec<u32>,
-    pub challenges: Vec<u32>,
-}
 
 // A number: digits, no leading zero, below 2^32 and so of at most 10 digits.
 fn number(field: &[u8]) -> Option<u32> {
@@ -58,7 +47,7 @@ fn block<'a, const K: usize>(lines: &mut impl Iterator<Item = &'a [u8]>, from: u
 }
 
 // 1 to 5.
-fn parse(sheet: &[u8]) -> Result<Sheet, Refusal> {
+fn parse(sheet: &[u8]) -> Result<Circuit, Refusal> {
     if sheet.len() > LONGEST {
         return Err([1, 0]);
     }
@@ -73,15 +62,15 @@ fn parse(sheet: &[u8]) -> Result<Sheet, Refusal> {
     let labels = selectors.split_off(5 * n as usize);
     let contents = block::<3>(&mut lines, 2 + n, n)?;
     let publics = block::<1>(&mut lines, 2 + 2 * n, l)?;
-    let challenges = block::<4>(&mut lines, 2 + 2 * n + l, 1)?;
+    let challenges = line(lines.next()).ok_or([5, 2 + 2 * n + l])?;
     match lines.next() {
         Some(_) => Err([5, 3 + 2 * n + l]),
-        None => Ok(Sheet { p, n, l, selectors, labels, contents, publics, challenges }),
+        None => Ok(Circuit { p, n, l, selectors, labels, contents, publics, challenges }),
     }
 }
 
 // 1 to 8, the buffers in their order.
-fn decide(sheet: &[u8], lent: &[&mut [u32]; 5]) -> Result<Sheet, Refusal> {
+fn decide(sheet: &[u8], lent: &[&mut [u32]; 5]) -> Result<Circuit, Refusal> {
     let s = parse(sheet)?;
     let due = [0, 1, 2, 3, 4].map(|k| (&*lent[k], LENGTHS[k]));
     lengths(&due).map_err(|[number, place]| [number, place + 1])?; // the sheet is the first buffer
@@ -120,7 +109,7 @@ fn print_line(out: &mut String, word: &str, numbers: &[u32]) {
 }
 
 // The five polynomials and the point verdict.
-fn print_work(s: &Sheet) -> Result<String, Refusal> {
+fn print_work(s: &Circuit) -> Result<String, Refusal> {
     let n = s.n as usize;
     let mut transcript = vec![0; 7 * n - 3];
     let mut prepared = vec![0; 8 * n];

@@ -6,7 +6,7 @@
 -- tab-const                                 a table of one number
 -- all-tab, nodup-tab                        every element; no element twice
 -- all-getD, all-of                          every element, by index
--- all-append                                every element of two lists end to end
+-- all-append, all-left, all-right           every element of two lists end to end, there and back
 -- wrote-none, wrote-more, wrote-all         the loop: before, a turn, after
 -- unread                                    the word that a turn is about to write is still what it was
 --
@@ -85,6 +85,14 @@ all-of P (a ∷ l) h = (h 0 (omega arith), all-of P l (λ i k. h (suc i) (omega 
 pub all-append : (P : ℕ → Type 0) (f g : List ℕ) → All P f → All P g → All P (f ++ g)
 all-append P [] g a b = b
 all-append P (c ∷ f) g a b = (a .0, all-append P f g (a .1) b)
+
+pub all-left : (P : ℕ → Type 0) (f g : List ℕ) → All P (f ++ g) → All P f
+all-left P [] g a = tt
+all-left P (c ∷ f) g a = (a .0, all-left P f g (a .1))
+
+pub all-right : (P : ℕ → Type 0) (f g : List ℕ) → All P (f ++ g) → All P g
+all-right P [] g a = a
+all-right P (c ∷ f) g a = all-right P f g (a .1)
 
 pub wrote-none : (f : ℕ → ℕ) (o : List ℕ) → o ≡ tab f 0 ++ drop 0 o
 unfolding tab

@@ -24,7 +24,7 @@ use lib.Seq.{take-at}
 use borrow.Author.Tests.{not-false, ltb-false, eq-eqb, ne-eqb}
 use Rattle.algebra.specs.Lists.{All, tab}
 use Rattle.algebra.specs.Polynomial.{Elements}
-use Rattle.algebra.specs.Tables.{length-tab}
+use Rattle.algebra.specs.Tables.{length-tab, all-right}
 use Rattle.field.specs.declared.Answer.{Answer}
 use Rattle.field.specs.Fields.{isRows, Admissible}
 use Rattle.field.specs.Primes.{rows-power}
@@ -33,7 +33,6 @@ use Rattle.field.specs.ReasonLaws.{none-applies, elements-of}
 use Rattle.sheet.specs.Sheet.{sheetP, sheetN, sheetL, onSelectors, onLabels, onWitness, onPublics, onChallenges, padded, sheetElements, sheetReasons}
 use Rattle.sheet.specs.declared.SheetAnswer.{SheetAnswer}
 use Rattle.sheet.specs.Promises.{Reads}
-use Rattle.witnesses.specs.Accepted.{all-right}
 use Rattle.archive.specs.Printed.{refusedText, textLength, workText}
 use Rattle.archive.specs.Puts.{Puts}
 use Rattle.archive.specs.Work.{Workable}

@@ -33,7 +33,7 @@ use Rattle.field.specs.Reasons.{answerOf, isAccepted}
 use Rattle.transform.specs.Transform.{scratchLength}
 use Rattle.circuit.specs.Circuit.{Circuit, lentCircuit, lentPublic, lentWitness}
 use Rattle.circuit.specs.Reasons.{preparedLength, transcriptLength}
-use Rattle.circuit.specs.Taken.{RightCircuit, RightPublics, prepare-taken, point-taken}
+use Rattle.circuit.specs.RightlyLent.{RightCircuit, RightPublics, prepare-taken, point-taken}
 use Rattle.protocol.specs.Protocol.{prepared, wiresOf, zOf, tOf, proved, PointVerdict, accept, reject, pointVerdict}
 use Rattle.protocol.specs.Layout.{prepared-elements, wire-part, z-part, t-part, proved-elements}
 use Rattle.protocol.specs.Lengths.{interpolation-length}

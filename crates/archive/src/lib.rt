@@ -13,6 +13,9 @@ mod lines;
 mod print;
 mod work;
 
+pub use blanks::sheet_room;
+pub use blanks::text_room;
+
 // The answer of `deposit`: how many bytes of the buffer are text; 0 if refused.
 pub struct Deposited {
     pub answer: Answer,

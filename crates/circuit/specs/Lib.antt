@@ -5,5 +5,6 @@ pub mod Promises
 pub mod Ahead
 pub mod Points
 pub mod Positions
+pub mod Shape
 pub mod Permutation
-pub mod Taken
+pub mod RightlyLent

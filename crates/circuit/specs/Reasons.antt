@@ -3,6 +3,7 @@
 -- selectorsLength, labelsLength, witnessLength, preparedLength, quotientLength, transcriptLength   the numbers of each buffer, for n rows
 -- badPublics l n         4: l exceeds n
 -- badLabel n labels      8: a label is 3n or more; detail: the lowest such position
+-- shapeReasons           the reasons of p, n and l, with which the calls that are lent public inputs begin
 -- permutationReasons     of `permutation`
 -- prepareReasons         of `prepare`
 -- rowsReasons            of `check_rows`
@@ -40,6 +41,9 @@ badPublics l n = record { number = 4; detail = 0; applies = ltb n l }
 
 abbrev pub badLabel : ℕ → List ℕ → Reason
 badLabel n labels = record { number = 8; detail = firstAbove (3 * n) labels; applies = ltb (firstAbove (3 * n) labels) (length labels) }
+
+abbrev pub shapeReasons : ℕ → ℕ → ℕ → List Reason
+shapeReasons p n l = badField p ∷ badRows p n ∷ badPublics l n ∷ []
 
 abbrev pub permutationReasons : ℕ → ℕ → List ℕ → List ℕ → List Reason
 permutationReasons p n labels positions =

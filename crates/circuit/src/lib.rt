@@ -10,11 +10,14 @@ use field::Answer;
 mod copies;
 mod parts;
 mod publics;
+mod reasons;
 mod tags;
 
 pub use copies::fill_permutation;
 pub use publics::public_of;
 pub use publics::public_polynomial;
+pub use reasons::decide_contents;
+pub use reasons::decide_shape;
 pub use tags::multiplier_of;
 pub use tags::own_tags;
 pub use tags::wired_tags;

@@ -35,32 +35,22 @@ fn labels_of_two_rows() {
 
 // Other numbers than two rows, with buffers for two rows.
 fn numbers_of_two_rows() {
-    two_rows(b"no prime, three rows", 18, 3, &[9, 9, 9, 9, 9, 9]);
-    two_rows(b"three rows", 17, 3, &[9, 9, 9, 9, 9, 9]);
-    two_rows(b"one row", 17, 1, &[0, 0, 0, 0, 0, 0]);
-    two_rows(b"eight rows", 17, 8, &[0, 0, 0, 0, 0, 0]);
-    two_rows(b"four rows in buffers of two", 17, 4, &[9, 9, 9, 9, 9, 9]);
-    two_rows(b"labels one too short", 17, 2, &[9, 9, 9, 9, 9]);
-    two_rows(b"labels one too long", 17, 2, &[9, 9, 9, 9, 9, 9, 9]);
+    let large = [9; 6];
+    let same = [0; 6];
+    two_rows(b"no prime, three rows", 18, 3, &large);
+    two_rows(b"three rows", 17, 3, &large);
+    two_rows(b"one row", 17, 1, &same);
+    two_rows(b"eight rows", 17, 8, &same);
+    two_rows(b"four rows in buffers of two", 17, 4, &large);
+    two_rows(b"labels one too short", 17, 2, &large[..5]);
+    two_rows(b"labels one too long", 17, 2, &[9; 7]);
 }
 
 fn lengths_of_positions() {
     let mut short = [99u32; 5];
-    case(
-        b"positions one too short",
-        17,
-        2,
-        &[9, 9, 9, 9, 9, 9],
-        &mut short,
-    );
+    case(b"positions one too short", 17, 2, &[9; 6], &mut short);
     let mut long = [99u32; 7];
-    case(
-        b"positions one too long",
-        17,
-        2,
-        &[9, 9, 9, 9, 9, 9],
-        &mut long,
-    );
+    case(b"positions one too long", 17, 2, &[9; 6], &mut long);
 }
 
 fn four_rows() {

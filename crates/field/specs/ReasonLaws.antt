@@ -3,14 +3,16 @@
 -- none-applies     an answer with number 0 means that no reason of the list applies (no reason has number 0)
 -- taken            where no reason of the list applies, the answer is number 0, detail 0
 -- answerOf-append  of two lists of reasons: the answer of the first, unless none of its reasons applies
+-- refused-first, refused-later   the same for a call that answers by the first list where one of its reasons applies, and else by the second
 -- elements-of      where no number of a list is p or more, all are elements
 -- elements-none    where all are elements, none is p or more
 -- length-none      a right length is no reason
 -- firstAbove-le    the place of the first number that is p or more is at most the length
 -- firstAbove-append  of two lists end to end: the place in the first, or else the length of the first + the place in the second
+-- further          the same for a call that has passed the first list and goes on with the second
 --
 -- Assumes nothing.
-use mathlib.Core.Path.{_≡_, refl, ap, _∙_}
+use mathlib.Core.Path.{_≡_, refl, sym, ap, ap₂, _∙_}
 use mathlib.Core.Logic.{_≢_}
 use mathlib.Core.Bool.{Bool, true, false, not, cond}
 use mathlib.Core.List.{List, [], _∷_, _++_}
@@ -24,6 +26,7 @@ use borrow.Author.Tests.{ltb-false, leb-false, leb-true, lt-ltb, le-ltb, eq-eqb,
 use Rattle.algebra.specs.Lists.{All}
 use Rattle.algebra.specs.Search.{First, first-is, first-none}
 use Rattle.algebra.specs.Tables.{all-getD, all-of}
+use Rattle.field.specs.declared.Answer.{Answer}
 use Rattle.field.specs.Reasons.{Reason, answerOf, isAccepted, firstAbove}
 
 pub none-applies : (rs : List Reason) → All (λ r. r .number ≢ 0) rs → answerOf rs .number ≡ 0 → All (λ r. r .applies ≡ false) rs
@@ -52,6 +55,16 @@ answerOf-append (r ∷ rs) ss n = go (r .applies) (answerOf-append rs ss (n .1))
         ≡ cond (isAccepted (cond b (record { number = r .number; detail = r .detail }) (answerOf rs))) (answerOf ss) (cond b (record { number = r .number; detail = r .detail }) (answerOf rs))
     go true e = rw (ne-eqb _ _ (n .0))
     go false e = e
+
+pub refused-first : (rs ss : List Reason) → All (λ r. r .number ≢ 0) rs → (a : Answer) → a ≡ answerOf rs → (a .number ≡ 0 → ⊥)
+    → a ≡ answerOf (rs ++ ss)
+refused-first rs ss n a e h =
+    rw (answerOf-append rs ss n, ne-eqb (answerOf rs .number) 0 (λ z. h (ap (λ (b : Answer). b .number) e ∙ z))) e
+
+pub refused-later : (rs ss : List Reason) → All (λ r. r .number ≢ 0) rs → (a b : Answer) → a ≡ answerOf rs → a .number ≡ 0 → b ≡ answerOf ss
+    → b ≡ answerOf (rs ++ ss)
+refused-later rs ss n a b e h f =
+    rw (answerOf-append rs ss n, eq-eqb (answerOf rs .number) 0 (sym (ap (λ (b : Answer). b .number) e) ∙ h)) f
 
 pub elements-of : (p : ℕ) (xs : List ℕ) → ltb (firstAbove p xs) (length xs) ≡ false → All (λ (x : ℕ). x < p) xs
 unfolding firstAbove
@@ -140,3 +153,8 @@ module _ (p : ℕ) (xs ys : List ℕ) where
       go : Dec (firstAbove p xs < length xs) → firstAbove p (xs ++ ys) ≡ cond (ltb (firstAbove p xs) (length xs)) (firstAbove p xs) (length xs + firstAbove p ys)
       go (yes h) = rw (lt-ltb (firstAbove p xs) (length xs) h) (first-same f (in-left h))
       go (no h) = rw (le-ltb (firstAbove p xs) (length xs) (omega arith)) (first-same f (in-right (omega arith)))
+
+pub further : (p : ℕ) (xs ys : List ℕ) (at long r : ℕ) → at ≡ firstAbove p xs → long ≡ length xs → r ≡ cond (ltb at long) at (long + firstAbove p ys)
+    → r ≡ firstAbove p (xs ++ ys)
+further p xs ys at long r e f g =
+    g ∙ ap₂ (λ (a l : ℕ). cond (ltb a l) a (l + firstAbove p ys)) e f ∙ sym (firstAbove-append p xs ys)

@@ -1,17 +1,14 @@
--- The reasons of the point check in three groups, one for each of the functions that decide; end to end they are the call's reasons.
+-- The reasons of `check_point` in three parts, one for each function that tests them. The first part is circuit's `shapeReasons`.
 --
--- sizeReasons, lengthReasons, elementReasons   the prime, the rows and the public inputs' number; the five lengths; the elements
+-- lengthReasons, contentReasons   of the lengths; of what the buffers hold. End to end, the three are `pointReasons`
 --
 -- Assumes nothing.
 use mathlib.Core.List.{List, [], _∷_, _++_}
 use Prim.Native.Nat.{ℕ}
 use lib.ListN.{length}
-use Rattle.field.specs.Reasons.{Reason, badField, badRows, badLength, badElement}
+use Rattle.field.specs.Reasons.{Reason, badLength, badElement}
 use Rattle.transform.specs.Transform.{scratchLength}
-use Rattle.circuit.specs.Reasons.{badPublics, preparedLength, transcriptLength}
-
-abbrev pub sizeReasons : ℕ → ℕ → ℕ → List Reason
-sizeReasons p n l = badField p ∷ badRows p n ∷ badPublics l n ∷ []
+use Rattle.circuit.specs.Reasons.{preparedLength, transcriptLength}
 
 abbrev pub lengthReasons : ℕ → ℕ → List ℕ → List ℕ → List ℕ → List ℕ → List ℕ → List Reason
 lengthReasons n l publics prepared transcript challenges scratch =
@@ -22,6 +19,6 @@ lengthReasons n l publics prepared transcript challenges scratch =
     ∷ badLength 5 (length scratch) (scratchLength n)
     ∷ []
 
-abbrev pub elementReasons : ℕ → List ℕ → List ℕ → List ℕ → List ℕ → List Reason
-elementReasons p publics prepared transcript challenges =
+abbrev pub contentReasons : ℕ → List ℕ → List ℕ → List ℕ → List ℕ → List Reason
+contentReasons p publics prepared transcript challenges =
     badElement p (publics ++ (prepared ++ (transcript ++ challenges))) ∷ []

@@ -55,106 +55,62 @@ fn worked(label: &[u8], l: u32, publics: &[u32], transcript: &[u32], challenges:
 }
 
 fn verdicts() {
-    worked(
-        b"worked sheet",
-        0,
-        &[],
-        &[4, 15, 13, 7, 9, 14, 16, 2, 9, 12, 15],
-        &[1, 1, 2, 2],
-    );
-    worked(
-        b"zeta on row 0",
-        0,
-        &[],
-        &[4, 15, 13, 7, 9, 14, 16, 2, 9, 12, 15],
-        &[1, 1, 2, 1],
-    );
-    worked(
-        b"zeta on row 1",
-        0,
-        &[],
-        &[4, 15, 13, 7, 9, 14, 16, 2, 9, 12, 15],
-        &[1, 1, 2, 16],
-    );
-    worked(
-        b"zeta 0",
-        0,
-        &[],
-        &[4, 15, 13, 7, 9, 14, 16, 2, 9, 12, 15],
-        &[1, 1, 2, 0],
-    );
-    worked(
-        b"another alpha",
-        0,
-        &[],
-        &[4, 15, 13, 7, 9, 14, 16, 2, 9, 12, 15],
-        &[1, 1, 3, 2],
-    );
+    let transcript = [4, 15, 13, 7, 9, 14, 16, 2, 9, 12, 15];
+    let challenges = [1, 1, 2, 2];
+    worked(b"worked sheet", 0, &[], &transcript, &challenges);
+    worked(b"zeta on row 0", 0, &[], &transcript, &[1, 1, 2, 1]);
+    worked(b"zeta on row 1", 0, &[], &transcript, &[1, 1, 2, 16]);
+    worked(b"zeta 0", 0, &[], &transcript, &[1, 1, 2, 0]);
+    worked(b"another alpha", 0, &[], &transcript, &[1, 1, 3, 2]);
     worked(
         b"last coefficient changed",
         0,
         &[],
         &[4, 15, 13, 7, 9, 14, 16, 2, 9, 12, 14],
-        &[1, 1, 2, 2],
+        &challenges,
     );
-    worked(
-        b"a public input of 1",
-        1,
-        &[1],
-        &[4, 15, 13, 7, 9, 14, 16, 2, 9, 12, 15],
-        &[1, 1, 2, 2],
-    );
+    worked(b"a public input of 1", 1, &[1], &transcript, &challenges);
     worked(
         b"two public inputs of 0",
         2,
         &[0, 0],
-        &[4, 15, 13, 7, 9, 14, 16, 2, 9, 12, 15],
-        &[1, 1, 2, 2],
+        &transcript,
+        &challenges,
     );
 }
 
 fn refusals() {
-    worked(
-        b"l above n",
-        3,
-        &[0, 0, 0],
-        &[4, 15, 13, 7, 9, 14, 16, 2, 9, 12, 15],
-        &[1, 1, 2, 2],
-    );
+    let transcript = [4, 15, 13, 7, 9, 14, 16, 2, 9, 12, 15];
+    let challenges = [1, 1, 2, 2];
+    worked(b"l above n", 3, &[0, 0, 0], &transcript, &challenges);
     worked(
         b"public inputs one too few",
         1,
         &[],
-        &[4, 15, 13, 7, 9, 14, 16, 2, 9, 12, 15],
-        &[1, 1, 2, 2],
+        &transcript,
+        &challenges,
     );
     worked(
         b"transcript one too short",
         0,
         &[],
-        &[4, 15, 13, 7, 9, 14, 16, 2, 9, 12],
-        &[1, 1, 2, 2],
+        &transcript[..10],
+        &challenges,
     );
     worked(
         b"transcript one too long",
         0,
         &[],
         &[4, 15, 13, 7, 9, 14, 16, 2, 9, 12, 15, 0],
-        &[1, 1, 2, 2],
+        &challenges,
     );
-    worked(
-        b"three challenges",
-        0,
-        &[],
-        &[4, 15, 13, 7, 9, 14, 16, 2, 9, 12, 15],
-        &[1, 1, 2],
-    );
+    worked(b"three challenges", 0, &[], &transcript, &challenges[..3]);
     worked(
         b"public input 17",
         1,
         &[17],
         &[17, 15, 13, 7, 9, 14, 16, 2, 9, 12, 15],
-        &[1, 1, 2, 2],
+        &challenges,
     );
     worked(
         b"coefficient 17",
@@ -163,13 +119,7 @@ fn refusals() {
         &[4, 15, 13, 7, 9, 14, 16, 2, 9, 12, 17],
         &[1, 1, 2, 17],
     );
-    worked(
-        b"zeta 17",
-        0,
-        &[],
-        &[4, 15, 13, 7, 9, 14, 16, 2, 9, 12, 15],
-        &[1, 1, 2, 17],
-    );
+    worked(b"zeta 17", 0, &[], &transcript, &[1, 1, 2, 17]);
 }
 
 // Other primes, rows, prepared circuits and scratches.
@@ -263,19 +213,10 @@ fn changed(k: usize) {
 }
 
 fn counts() {
-    print::text(b"zetas accepted: as it is, then with each coefficient raised by one");
-    changed(11);
-    changed(0);
-    changed(1);
-    changed(2);
-    changed(3);
-    changed(4);
-    changed(5);
-    changed(6);
-    changed(7);
-    changed(8);
-    changed(9);
-    changed(10);
+    print::text(b"zetas accepted: with each coefficient raised by one, then as it is");
+    for k in 0..12 {
+        changed(k);
+    }
     print::end();
 }
 

@@ -63,26 +63,17 @@ fn taken() {
 }
 
 fn refused() {
-    two_rows(
-        b"no prime, three rows",
-        18,
-        3,
-        &[0, 1, 0, 1, 16, 16, 1, 0, 0, 0],
-        &[0, 2, 1, 2, 2, 3],
-    );
-    two_rows(
-        b"three rows",
-        17,
-        3,
-        &[0, 1, 0, 1, 16, 16, 1, 0, 0, 0],
-        &[0, 2, 1, 2, 2, 3],
-    );
+    let selectors = [0, 1, 0, 1, 16, 16, 1, 0, 0, 0];
+    let labels = [0, 2, 1, 2, 2, 3];
+    let large = [0, 2, 1, 2, 2, 9];
+    two_rows(b"no prime, three rows", 18, 3, &selectors, &labels);
+    two_rows(b"three rows", 17, 3, &selectors, &labels);
     two_rows(
         b"selectors one too short",
         17,
         2,
         &[0, 1, 0, 1, 16, 17, 1, 0, 0],
-        &[0, 2, 1, 2, 2, 9],
+        &large,
     );
     two_rows(
         b"labels one too long",
@@ -96,15 +87,9 @@ fn refused() {
         17,
         2,
         &[0, 1, 0, 1, 16, 16, 1, 0, 0, 17],
-        &[0, 2, 1, 2, 2, 9],
+        &large,
     );
-    two_rows(
-        b"label 6",
-        17,
-        2,
-        &[0, 1, 0, 1, 16, 16, 1, 0, 0, 0],
-        &[0, 2, 1, 6, 2, 9],
-    );
+    two_rows(b"label 6", 17, 2, &selectors, &[0, 2, 1, 6, 2, 9]);
 }
 
 fn lengths() {

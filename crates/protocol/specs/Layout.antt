@@ -26,68 +26,68 @@ use Rattle.protocol.specs.Lengths.{interpolation-length}
 -- LISTS END TO END
 
 -- f 0, f 1, .., f (c - 1), and then r
-abbrev laid : (ℕ → List ℕ) → ℕ → List ℕ → List ℕ
-laid f zero r = r
-laid f (suc c) r = f 0 ++ laid (λ s. f (suc s)) c r
+abbrev laidBefore : (ℕ → List ℕ) → ℕ → List ℕ → List ℕ
+laidBefore f zero r = r
+laidBefore f (suc c) r = f 0 ++ laidBefore (λ s. f (suc s)) c r
 
 drop-one : (n : ℕ) (a r : List ℕ) (s : ℕ) → length a ≡ n → drop (suc s * n) (a ++ r) ≡ drop (s * n) r
 drop-one n a r s h =
     let e : suc s * n ≡ n + s * n = omega arith in
     ap (λ (m : ℕ). drop m (a ++ r)) e ∙ sym (drop-drop (s * n) n (a ++ r)) ∙ ap (drop (s * n)) (drop-at a r n h)
 
-laid-rest : (n : ℕ) (f : ℕ → List ℕ) (c : ℕ) (r : List ℕ) → ((s : ℕ) → s < c → length (f s) ≡ n) → drop (c * n) (laid f c r) ≡ r
-laid-rest n f zero r h = ap (λ (m : ℕ). drop m r) (zero-mul n)
-laid-rest n f (suc c) r h =
-    drop-one n (f 0) (laid (λ s. f (suc s)) c r) c (h 0 (omega arith))
-    ∙ laid-rest n (λ s. f (suc s)) c r (λ s l. h (suc s) (omega arith))
+before-rest : (n : ℕ) (f : ℕ → List ℕ) (c : ℕ) (r : List ℕ) → ((s : ℕ) → s < c → length (f s) ≡ n) → drop (c * n) (laidBefore f c r) ≡ r
+before-rest n f zero r h = ap (λ (m : ℕ). drop m r) (zero-mul n)
+before-rest n f (suc c) r h =
+    drop-one n (f 0) (laidBefore (λ s. f (suc s)) c r) c (h 0 (omega arith))
+    ∙ before-rest n (λ s. f (suc s)) c r (λ s l. h (suc s) (omega arith))
 
-laid-part : (n : ℕ) (f : ℕ → List ℕ) (c : ℕ) (r : List ℕ) → ((s : ℕ) → s < c → length (f s) ≡ n) → (s : ℕ) → s < c
-    → part n s (laid f c r) ≡ f s
-laid-part n f zero r h s l = absurd (omega arith)
-laid-part n f (suc c) r h zero l = rw (zero-mul n) (take-at (f 0) (laid (λ s. f (suc s)) c r) n (h 0 (omega arith)))
-laid-part n f (suc c) r h (suc s) l =
-    ap (take n) (drop-one n (f 0) (laid (λ s. f (suc s)) c r) s (h 0 (omega arith)))
-    ∙ laid-part n (λ s. f (suc s)) c r (λ s l. h (suc s) (omega arith)) s (omega arith)
+before-part : (n : ℕ) (f : ℕ → List ℕ) (c : ℕ) (r : List ℕ) → ((s : ℕ) → s < c → length (f s) ≡ n) → (s : ℕ) → s < c
+    → part n s (laidBefore f c r) ≡ f s
+before-part n f zero r h s l = absurd (omega arith)
+before-part n f (suc c) r h zero l = rw (zero-mul n) (take-at (f 0) (laidBefore (λ s. f (suc s)) c r) n (h 0 (omega arith)))
+before-part n f (suc c) r h (suc s) l =
+    ap (take n) (drop-one n (f 0) (laidBefore (λ s. f (suc s)) c r) s (h 0 (omega arith)))
+    ∙ before-part n (λ s. f (suc s)) c r (λ s l. h (suc s) (omega arith)) s (omega arith)
 
-laid-elements : {p n m : ℕ} (f : ℕ → List ℕ) (c : ℕ) {r : List ℕ} → ((s : ℕ) → Elements p n (f s)) → Elements p m r → Elements p (c * n + m) (laid f c r)
-laid-elements {p} {n} {m} f zero {r} h e = subst (λ (k : ℕ). Elements p k r) (omega arith) e
-laid-elements {p} {n} {m} f (suc c) {r} h e =
-    subst (λ (k : ℕ). Elements p k (f 0 ++ laid (λ s. f (suc s)) c r)) (omega arith)
-    (append-elements (h 0) (laid-elements (λ s. f (suc s)) c (λ s. h (suc s)) e))
+before-elements : {p n m : ℕ} (f : ℕ → List ℕ) (c : ℕ) {r : List ℕ} → ((s : ℕ) → Elements p n (f s)) → Elements p m r → Elements p (c * n + m) (laidBefore f c r)
+before-elements {p} {n} {m} f zero {r} h e = subst (λ (k : ℕ). Elements p k r) (omega arith) e
+before-elements {p} {n} {m} f (suc c) {r} h e =
+    subst (λ (k : ℕ). Elements p k (f 0 ++ laidBefore (λ s. f (suc s)) c r)) (omega arith)
+    (append-elements (h 0) (before-elements (λ s. f (suc s)) c (λ s. h (suc s)) e))
 
 -- THE PREPARED CIRCUIT
 
 module _ (p n : ℕ) (C : Circuit) where
-  prepared-laid : prepared p n C ≡ laid (preparedPoly p n C) 8 []
+  prepared-before : prepared p n C ≡ laidBefore (preparedPoly p n C) 8 []
   unfolding prepared
-  prepared-laid = ap (laid (preparedPoly p n C) 7) (sym (append-nil (preparedPoly p n C 7)))
+  prepared-before = ap (laidBefore (preparedPoly p n C) 7) (sym (append-nil (preparedPoly p n C 7)))
 
   pub prepared-part : (s : ℕ) → s < 8 → part n s (prepared p n C) ≡ preparedPoly p n C s
   prepared-part s l =
-      ap (part n s) prepared-laid
-      ∙ laid-part n (preparedPoly p n C) 8 [] (λ s l. interpolation-length p n _) s l
+      ap (part n s) prepared-before
+      ∙ before-part n (preparedPoly p n C) 8 [] (λ s l. interpolation-length p n _) s l
 
   pub prepared-elements : 0 < p → Elements p (preparedLength n) (prepared p n C)
   prepared-elements z =
-      subst (Elements p (8 * n)) (sym prepared-laid)
-      (subst (λ (k : ℕ). Elements p k (laid (preparedPoly p n C) 8 [])) (omega arith)
-      (laid-elements (preparedPoly p n C) 8 (λ s. interpolation-elements n _ z) record { long = refl; below = tt }))
+      subst (Elements p (8 * n)) (sym prepared-before)
+      (subst (λ (k : ℕ). Elements p k (laidBefore (preparedPoly p n C) 8 [])) (omega arith)
+      (before-elements (preparedPoly p n C) 8 (λ s. interpolation-elements n _ z) record { long = refl; below = tt }))
 
 -- THE TRANSCRIPT
 
 module _ (n : ℕ) (wire : ℕ → List ℕ) (z t : List ℕ) (lw : (c : ℕ) → c < 3 → length (wire c) ≡ n) where
   pub wire-part : (c : ℕ) → c < 3 → part n c (transcript wire z t) ≡ wire c
-  wire-part c l = laid-part n wire 3 (z ++ t) lw c l
+  wire-part c l = before-part n wire 3 (z ++ t) lw c l
 
   pub z-part : length z ≡ n → part n 3 (transcript wire z t) ≡ z
-  z-part h = ap (take n) (laid-rest n wire 3 (z ++ t) lw) ∙ take-at z t n h
+  z-part h = ap (take n) (before-rest n wire 3 (z ++ t) lw) ∙ take-at z t n h
 
   pub t-part : length z ≡ n → drop (4 * n) (transcript wire z t) ≡ t
   t-part h =
       let e : 4 * n ≡ 3 * n + n = omega arith in
       ap (λ (m : ℕ). drop m (transcript wire z t)) e
       ∙ sym (drop-drop n (3 * n) (transcript wire z t))
-      ∙ ap (drop n) (laid-rest n wire 3 (z ++ t) lw) ∙ drop-at z t n h
+      ∙ ap (drop n) (before-rest n wire 3 (z ++ t) lw) ∙ drop-at z t n h
 
 pub proved-elements : (p n : ℕ) (C : Circuit) (x v : ℕ → ℕ) (beta gamma alpha : ℕ) → 0 < p → 1 ≤ n
     → Elements p (transcriptLength n) (proved p n C x v beta gamma alpha)
@@ -95,7 +95,7 @@ unfolding quotient
 proved-elements p n C x v beta gamma alpha z h =
     let count : 3 * n + (n + quotientLength n) ≡ 7 * n - 3 = omega arith in
     subst (λ (m : ℕ). Elements p m (proved p n C x v beta gamma alpha)) count
-    (laid-elements (wiresOf p n v) 3 (λ c. interpolation-elements n _ z)
+    (before-elements (wiresOf p n v) 3 (λ c. interpolation-elements n _ z)
     (append-elements (interpolation-elements n _ z) (reduced-elements (quotientLength n) _ z)))
 
 -- F AS IT IS LENT

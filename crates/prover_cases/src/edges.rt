@@ -14,11 +14,10 @@ use super::sheet::line;
 use super::sheet::numbers;
 use super::sheet::word;
 
-// Calls that are accepted. Public inputs of 0 and another number for a lone label leave the transcript as it is: 4,15,13,7,9,14,16,2,9,12,15.
+// Calls that are accepted. The sheet's transcript is 4,15,13,7,9,14,16,2,9,12,15; public inputs of 0 and another number for a lone label, further
+// down, leave it as it is.
 fn accepted() {
     line(b"worked sheet", Case::sheet());
-    line(b"two public inputs of 0", Case::sheet().publics(2));
-    word(b"label 5", LABELS, 5, 5, 0, 0);
     word(b"alpha 0", CHALLENGES, 2, 0, 0, 0);
     word(b"alpha 16", CHALLENGES, 2, 16, 0, 0);
     word(b"gamma 16", CHALLENGES, 1, 16, 0, 0);

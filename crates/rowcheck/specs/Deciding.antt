@@ -1,17 +1,14 @@
--- The reasons of `check_rows` in three parts, one for each function that tests them.
+-- The reasons of `check_rows` in three parts, one for each function that tests them. The first part is circuit's `shapeReasons`.
 --
--- shapeReasons, lengthReasons, contentReasons   of p, n and l; of the lengths; of what the buffers hold. End to end they are `rowsReasons`
+-- lengthReasons, contentReasons   of the lengths; of what the buffers hold. End to end, the three are `rowsReasons`
 -- Few          the buffers are short enough that a place in them is a number of the machine
 --
 -- Assumes nothing.
 use mathlib.Core.List.{List, [], _∷_, _++_}
 use Prim.Native.Nat.{ℕ, _+_, _≤_}
 use lib.ListN.{length}
-use Rattle.field.specs.Reasons.{Reason, badField, badRows, badLength, badElement}
-use Rattle.circuit.specs.Reasons.{selectorsLength, labelsLength, witnessLength, badPublics, badLabel}
-
-abbrev pub shapeReasons : ℕ → ℕ → ℕ → List Reason
-shapeReasons p n l = badField p ∷ badRows p n ∷ badPublics l n ∷ []
+use Rattle.field.specs.Reasons.{Reason, badLength, badElement}
+use Rattle.circuit.specs.Reasons.{selectorsLength, labelsLength, witnessLength, badLabel}
 
 abbrev pub lengthReasons : ℕ → ℕ → ℕ → ℕ → ℕ → ℕ → ℕ → ℕ → List Reason
 lengthReasons n l selectors labels witness publics z challenges =

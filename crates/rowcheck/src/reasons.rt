@@ -5,24 +5,8 @@ ghost use Prim.Native.Nat.{_+_, _≤_};
 ghost use lib.ListN.{length};
 ghost use Rattle.field.specs.Reasons.{answerOf, firstAbove};
 ghost use Rattle.circuit.specs.Reasons.{rowsReasons};
-ghost use Rattle.rowcheck.specs.Deciding.{shapeReasons, lengthReasons, contentReasons, Few};
+ghost use Rattle.rowcheck.specs.Deciding.{lengthReasons, contentReasons, Few};
 use field::Answer;
-
-// The reasons of p, n and l.
-fn shape(p: u32, n: u32, l: u32) -> Answer
-    ensures { λ r. ⌜ r ≡ answerOf (shapeReasons p n l) ⌝ }
-{
-    if !field::is_field(p) {
-        return field::refused(2, 0);
-    }
-    if !field::is_rows(p, n) {
-        return field::refused(3, 0);
-    }
-    if n < l {
-        return field::refused(4, 0);
-    }
-    field::accepted()
-}
 
 // The reasons of the buffers' lengths.
 fn lengths(
@@ -71,14 +55,9 @@ fn elements(
     requires { ⌜ length (now selectors) + length (now witness) + length (now publics) + length (now z) + length (now challenges) ≤ 65536 ⌝ }
     ensures { λ r. ⌜ r ≡ firstAbove p (now (selectors .entry) ++ (now (witness .entry) ++ (now (publics .entry) ++ (now (z .entry) ++ now (challenges .entry))))) ⌝ }
 {
-    let one = selectors.len();
-    let a = field::first_above(p, selectors);
-    let b = field::then_above(p, a, one, witness);
-    let two = one + witness.len();
-    let c = field::then_above(p, b, two, publics);
-    let three = two + publics.len();
-    let d = field::then_above(p, c, three, z);
-    field::then_above(p, d, three + z.len(), challenges)
+    let at = field::first_of_four(p, selectors, witness, publics, z);
+    let long = selectors.len() + witness.len() + publics.len() + z.len();
+    field::then_above(p, at, long, challenges)
 }
 
 // The reasons of the numbers and the labels in the buffers.
@@ -97,14 +76,7 @@ fn contents(
 {
     let at = elements(p, selectors, witness, publics, z, challenges);
     let long = selectors.len() + witness.len() + publics.len() + z.len() + challenges.len();
-    if at < long {
-        return field::refused(7, at as u32);
-    }
-    let place = field::first_above(3 * n, labels);
-    if place < labels.len() {
-        return field::refused(8, place as u32);
-    }
-    field::accepted()
+    circuit::decide_contents(n, at, long, labels)
 }
 
 // The reasons in order.
@@ -121,7 +93,7 @@ pub fn decide(
 ) -> Answer
     ensures { λ r. ⌜ r ≡ answerOf (rowsReasons p n l (now (selectors .entry)) (now (labels .entry)) (now (witness .entry)) (now (publics .entry)) (now (z .entry)) (now (challenges .entry))) ⌝ }
 {
-    let first = shape(p, n, l);
+    let first = circuit::decide_shape(p, n, l);
     let number = first.number;
     if number != 0 {
         return first;

@@ -65,120 +65,91 @@ fn worked(label: &[u8], l: u32, witness: &[u32], publics: &[u32], z: &[u32], cha
 }
 
 fn verdicts() {
-    worked(
-        b"worked sheet",
-        0,
-        &[2, 6, 3, 6, 6, 12],
-        &[],
-        &[1, 14],
-        &[1, 1],
-    );
+    let contents = [2, 6, 3, 6, 6, 12];
+    let z = [1, 14];
+    let challenges = [1, 1];
+    worked(b"worked sheet", 0, &contents, &[], &z, &challenges);
     worked(
         b"last content 11",
         0,
         &[2, 6, 3, 6, 6, 11],
         &[],
-        &[1, 14],
-        &[1, 1],
+        &z,
+        &challenges,
     );
-    worked(
-        b"z starts at 2",
-        0,
-        &[2, 6, 3, 6, 6, 12],
-        &[],
-        &[2, 11],
-        &[1, 1],
-    );
+    worked(b"z starts at 2", 0, &contents, &[], &[2, 11], &challenges);
     worked(
         b"wrong step to row 1",
         0,
-        &[2, 6, 3, 6, 6, 12],
+        &contents,
         &[],
         &[1, 13],
-        &[1, 1],
+        &challenges,
     );
     worked(
         b"row 1 as 5,7,12",
         0,
         &[2, 5, 3, 7, 6, 12],
         &[],
-        &[1, 14],
-        &[1, 1],
+        &z,
+        &challenges,
     );
     worked(
         b"row 1 as 5,7,12, beta 0",
         0,
         &[2, 5, 3, 7, 6, 12],
         &[],
-        &[1, 1],
+        &challenges,
         &[0, 1],
     );
     worked(
         b"two public inputs of 0",
         2,
-        &[2, 6, 3, 6, 6, 12],
+        &contents,
         &[0, 0],
-        &[1, 14],
-        &[1, 1],
+        &z,
+        &challenges,
     );
-    worked(
-        b"a public input of 1",
-        1,
-        &[2, 6, 3, 6, 6, 12],
-        &[1],
-        &[1, 14],
-        &[1, 1],
-    );
+    worked(b"a public input of 1", 1, &contents, &[1], &z, &challenges);
 }
 
 fn refusals() {
-    worked(
-        b"l above n",
-        3,
-        &[2, 6, 3, 6, 6, 12],
-        &[0, 0, 0],
-        &[1, 14],
-        &[1, 1],
-    );
+    let contents = [2, 6, 3, 6, 6, 12];
+    let z = [1, 14];
+    let challenges = [1, 1];
+    worked(b"l above n", 3, &contents, &[0, 0, 0], &z, &challenges);
     worked(
         b"contents one too short",
         0,
         &[2, 6, 3, 6, 6],
         &[],
-        &[1, 14],
-        &[1, 1],
+        &z,
+        &challenges,
     );
     worked(
         b"public inputs one too many",
         0,
-        &[2, 6, 3, 6, 6, 12],
+        &contents,
         &[0],
-        &[1, 14],
-        &[1, 1],
+        &z,
+        &challenges,
     );
     worked(
         b"z one too long",
         0,
-        &[2, 6, 3, 6, 6, 12],
+        &contents,
         &[],
         &[1, 14, 0],
-        &[1, 1],
+        &challenges,
     );
-    worked(
-        b"three challenges",
-        0,
-        &[2, 6, 3, 6, 6, 12],
-        &[],
-        &[1, 14],
-        &[1, 1, 1],
-    );
+    worked(b"three challenges", 0, &contents, &[], &z, &[1, 1, 1]);
     worked(
         b"content 16 taken",
         0,
         &[2, 6, 3, 6, 6, 16],
         &[],
-        &[1, 14],
-        &[1, 1],
+        &z,
+        &challenges,
     );
     worked(
         b"content 17",
@@ -186,25 +157,18 @@ fn refusals() {
         &[2, 6, 3, 6, 6, 17],
         &[],
         &[17, 14],
-        &[1, 1],
+        &challenges,
     );
     worked(
         b"public input 17",
         1,
-        &[2, 6, 3, 6, 6, 12],
+        &contents,
         &[17],
         &[17, 14],
-        &[1, 1],
+        &challenges,
     );
-    worked(b"z 17", 0, &[2, 6, 3, 6, 6, 12], &[], &[1, 17], &[17, 1]);
-    worked(
-        b"challenge 17",
-        0,
-        &[2, 6, 3, 6, 6, 12],
-        &[],
-        &[1, 14],
-        &[1, 17],
-    );
+    worked(b"z 17", 0, &contents, &[], &[1, 17], &[17, 1]);
+    worked(b"challenge 17", 0, &contents, &[], &z, &[1, 17]);
 }
 
 // Other primes, rows, selectors and labels.
@@ -224,48 +188,27 @@ fn numbers(label: &[u8], p: u32, n: u32, selectors: &[u32], labels: &[u32]) {
 }
 
 fn circuits() {
-    numbers(
-        b"no prime, three rows",
-        18,
-        3,
-        &[0, 1, 0, 1, 16, 16, 1, 0, 0, 0],
-        &[0, 2, 1, 2, 2, 3],
-    );
-    numbers(
-        b"three rows",
-        17,
-        3,
-        &[0, 1, 0, 1, 16, 16, 1, 0, 0, 0],
-        &[0, 2, 1, 2, 2, 3],
-    );
+    let selectors = [0, 1, 0, 1, 16, 16, 1, 0, 0, 0];
+    let labels = [0, 2, 1, 2, 2, 3];
+    let large = [0, 2, 1, 2, 2, 6];
+    numbers(b"no prime, three rows", 18, 3, &selectors, &labels);
+    numbers(b"three rows", 17, 3, &selectors, &labels);
     numbers(
         b"selectors one too long",
         17,
         2,
         &[0, 1, 0, 1, 16, 16, 1, 0, 0, 0, 0],
-        &[0, 2, 1, 2, 2, 3],
+        &labels,
     );
-    numbers(
-        b"labels one too short",
-        17,
-        2,
-        &[0, 1, 0, 1, 16, 16, 1, 0, 0, 0],
-        &[0, 2, 1, 2, 2],
-    );
+    numbers(b"labels one too short", 17, 2, &selectors, &labels[..5]);
     numbers(
         b"selector 17",
         17,
         2,
         &[17, 1, 0, 1, 16, 16, 1, 0, 0, 0],
-        &[0, 2, 1, 2, 2, 6],
+        &large,
     );
-    numbers(
-        b"label 6",
-        17,
-        2,
-        &[0, 1, 0, 1, 16, 16, 1, 0, 0, 0],
-        &[0, 2, 1, 2, 2, 6],
-    );
+    numbers(b"label 6", 17, 2, &selectors, &large);
 }
 
 pub fn run() {

@@ -4,7 +4,7 @@
 -- SheetBack            what is read off the text s
 -- sheet-back           THE THEOREM, for the text of the numbers
 -- sheetLine            the numbers of line i of that text
--- Taken                what the reasons ask of the numbers: p and n are admissible on a sheet, l is at most n, elements are below p, labels below 3n
+-- Admitted             what the reasons ask of the numbers: p and n are admissible on a sheet, l is at most n, elements are below p, labels below 3n
 -- sheet-taken          a sheet that reads so, of at most 65,536 bytes, is accepted, where the lent buffers have the lengths that 256 rows need
 --
 -- Assumes nothing.
@@ -236,7 +236,7 @@ module _ (p n l : ℕ) (selectors labels witness publics challenges : List ℕ) 
 
 -- TAKEN
 
-pub record Taken (s : List ℕ) (p n l : ℕ) (selectors labels witness publics challenges : List ℕ) : Type 0 where
+pub record Admitted (s : List ℕ) (p n l : ℕ) (selectors labels witness publics challenges : List ℕ) : Type 0 where
   pub short : length s ≤ 65536
   pub one-of-three : isField p ≡ true
   pub rows : isRows p n ≡ true
@@ -249,7 +249,7 @@ pub record Taken (s : List ℕ) (p n l : ℕ) (selectors labels witness publics 
   pub labels-below : All (λ (x : ℕ). x < 3 * n) labels
 
 module _ (s : List ℕ) (p n l : ℕ) (selectors labels witness publics challenges : List ℕ) (back : SheetBack s p n l selectors labels witness publics challenges)
-    (taken : Taken s p n l selectors labels witness publics challenges) where
+    (taken : Admitted s p n l selectors labels witness publics challenges) where
   elements-below : All (λ (x : ℕ). x < p) (sheetElements s n l)
   elements-below =
       rw (back .selectors-are, back .witness-is, back .publics-are, back .challenges-are)

@@ -1,23 +1,7 @@
 // Runs `deposit` on sheets with known answers. The arguments are pairs of file names, a sheet and what must be printed for it; a line says of each
 // sheet whether that is printed, to the byte.
-ghost use mathlib.Core.Path.{_≡_};
-ghost use lib.ListN.{length};
 ghost use Rattle.io.specs.Counts.{Counts};
 use libc::STDOUT_FILENO;
-
-// Room for one byte more than a sheet may have: a longer file is cut there, and is too long all the same.
-fn sheet_room() -> [u8; 65537]
-    ensures { λ r. ⌜ 65537 ≡ length r ⌝ }
-{
-    [0; 65537]
-}
-
-// Room for a printed text.
-fn text_room() -> [u8; 20480]
-    ensures { λ r. ⌜ 20480 ≡ length r ⌝ }
-{
-    [0; 20480]
-}
 
 // The file that argument i names, at the start of `out`; how many bytes were read, none where there is no such file.
 fn load(i: usize, out: &mut [u8]) -> usize
@@ -64,9 +48,9 @@ fn say(i: usize, right: bool) {
 
 // The sheet that argument i names, against the text that the next one names.
 fn judge(i: usize, next: usize) {
-    let mut sheet = sheet_room();
-    let mut due = text_room();
-    let mut text = text_room();
+    let mut sheet = archive::sheet_room();
+    let mut due = archive::text_room();
+    let mut text = archive::text_room();
     let n = load(i, &mut sheet);
     let m = load(next, &mut due);
     let printed = archive::deposit(&sheet[..n], &mut text);

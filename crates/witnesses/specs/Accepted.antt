@@ -1,32 +1,33 @@
--- What holds where no reason of the prover applies.
+-- What holds exactly where no reason of the prover applies.
 --
 -- Accepted      p and n are admissible, every buffer is lent rightly, the witness satisfies the circuit, and no factor of any D(i) is 0
 -- accepted-of   an answer with number 0 means that all of it holds
--- all-left, all-right   every element of either of two lists end to end
+-- prove-taken   where all of it holds, no reason applies: buffers that are lent rightly, with contents that satisfy the circuit, are never turned down
 -- brokenGate-le, brokenCopy-le, zeroFactor-le   the row or position is at most their number
 --
 -- Assumes nothing.
 use mathlib.Core.Path.{_≡_}
-use mathlib.Core.Bool.{Bool, false}
-use mathlib.Core.List.{List, [], _∷_, _++_}
+use mathlib.Core.Bool.{Bool, false, not}
+use mathlib.Core.List.{List, _++_}
 use Prim.Native.Nat.{ℕ, _*_, _≤_, _<_}
 use native.Mathlib.Omega.{arith}
 use lib.Dec.{ltb}
 use lib.ListN.{length, getD}
-use borrow.Author.Tests.{not-false, eqb-true, ltb-false}
+use borrow.Author.Tests.{not-false, eqb-true, ltb-false, le-ltb}
 use Rattle.algebra.specs.Lists.{All}
 use Rattle.algebra.specs.Modular.{first}
 use Rattle.algebra.specs.Polynomial.{Elements}
 use Rattle.algebra.specs.Search.{first-is}
-use Rattle.field.specs.Fields.{Admissible}
+use Rattle.algebra.specs.Tables.{all-append, all-left, all-right}
+use Rattle.field.specs.Fields.{isField, isRows, Admissible}
 use Rattle.field.specs.Reasons.{answerOf}
-use Rattle.field.specs.ReasonLaws.{none-applies, elements-of}
+use Rattle.field.specs.ReasonLaws.{none-applies, taken, length-none, elements-of, elements-none}
 use Rattle.transform.specs.Transform.{scratchLength}
 use Rattle.circuit.specs.Circuit.{Circuit, lentCircuit, lentPublic, lentWitness, Satisfies}
 use Rattle.circuit.specs.Reasons.{witnessLength, transcriptLength}
-use Rattle.circuit.specs.Taken.{RightCircuit, RightPublics}
+use Rattle.circuit.specs.RightlyLent.{RightCircuit, RightPublics}
 use Rattle.protocol.specs.Protocol.{brokenGate, brokenCopy, zeroFactor}
-use Rattle.protocol.specs.Conditions.{satisfied}
+use Rattle.protocol.specs.Conditions.{satisfied, unbroken}
 use Rattle.witnesses.specs.Reasons.{proverReasons}
 
 pub record Accepted (p n l : ℕ) (selectors labels witness publics transcript challenges scratch : List ℕ) : Type 0 where
@@ -39,14 +40,6 @@ pub record Accepted (p n l : ℕ) (selectors labels witness publics transcript c
   pub scratch-long : length scratch ≡ scratchLength n
   pub satisfies : Satisfies p n (lentCircuit n selectors labels) (lentPublic publics) (lentWitness witness)
   pub no-zero : zeroFactor p n (lentCircuit n selectors labels) (lentWitness witness) (getD challenges 0 0) (getD challenges 1 0) ≡ n
-
-pub all-left : (P : ℕ → Type 0) (f g : List ℕ) → All P (f ++ g) → All P f
-all-left P [] g a = tt
-all-left P (c ∷ f) g a = (a .0, all-left P f g (a .1))
-
-pub all-right : (P : ℕ → Type 0) (f g : List ℕ) → All P (f ++ g) → All P g
-all-right P [] g a = a
-all-right P (c ∷ f) g a = all-right P f g (a .1)
 
 first-le : (test : ℕ → Bool) (m : ℕ) → first test 0 m ≤ m
 first-le test m = omega (arith, first-is test 0 m .high)
@@ -106,3 +99,23 @@ accepted-of p n l selectors labels witness publics transcript challenges scratch
           (at-end (brokenCopy-le n C v) (broken .1 .0));
       no-zero = at-end (zeroFactor-le p n C v beta gamma) (broken .1 .1 .0);
     }
+
+pub prove-taken : {p n l : ℕ} {selectors labels witness publics transcript challenges scratch : List ℕ}
+    → Accepted p n l selectors labels witness publics transcript challenges scratch
+    → answerOf (proverReasons p n l selectors labels witness publics transcript challenges scratch) ≡ record { number = 0; detail = 0 }
+prove-taken {p} {n} {l} {selectors} {labels} {witness} {publics} {transcript} {challenges} {scratch} A =
+    let C = lentCircuit n selectors labels in
+    let v = lentWitness witness in
+    let P : ℕ → Type 0 = λ x. x < p in
+    let X = A .publics-right .elements in
+    let prime : not (isField p) ≡ false = rw (A .admissible .one-of-three) in
+    let rows : not (isRows p n) ≡ false = rw (A .admissible .rows) in
+    let all : All P (selectors ++ (witness ++ (publics ++ challenges))) =
+    all-append P selectors _ (A .circuit-right .selectors-right .below)
+    (all-append P witness _ (A .witness-right .below) (all-append P publics _ (X .below) (A .challenges-right .below))) in
+    let whole = unbroken p n C (lentPublic publics) v (A .satisfies) in
+    let gates = le-ltb (brokenGate p n C (lentPublic publics) v) n (omega (arith, whole .0)) in
+    let copies = le-ltb (brokenCopy n C v) (3 * n) (omega (arith, whole .1)) in
+    let factors = le-ltb (zeroFactor p n C v (getD challenges 0 0) (getD challenges 1 0)) n (omega (arith, A .no-zero)) in
+    taken (proverReasons p n l selectors labels witness publics transcript challenges scratch)
+    (prime, (rows, (le-ltb n l (A .publics-right .few), (length-none (A .circuit-right .selectors-right .long), (length-none (A .circuit-right .labels-right .long), (length-none (A .witness-right .long), (length-none (X .long), (length-none (A .transcript-long), (length-none (A .challenges-right .long), (length-none (A .scratch-long), (elements-none p _ all, (elements-none (3 * n) labels (A .circuit-right .labels-right .below), (gates, (copies, (factors, tt)))))))))))))))

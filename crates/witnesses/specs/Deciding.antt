@@ -1,6 +1,7 @@
--- The reasons of the buffers in three parts, one for each function that tests them, and what is known past them.
+-- The reasons of the buffers in three parts, one for each function that tests them, and what is known past them. The first part is circuit's
+-- `shapeReasons`.
 --
--- shapeReasons, lengthReasons, contentReasons   of p, n and l; of the lengths; of what the buffers hold. End to end they are `proveReasons`
+-- lengthReasons, contentReasons   of the lengths; of what the buffers hold. End to end, the three are `proveReasons`
 -- Few          the buffers are short enough that a place in them is a number of the machine
 -- Checked      p and n are admissible, lengths and labels are right
 --
@@ -10,13 +11,10 @@ use mathlib.Core.List.{List, [], _∷_, _++_}
 use Prim.Native.Nat.{ℕ, _+_, _*_, _≤_}
 use lib.ListN.{length}
 use Rattle.field.specs.Fields.{Admissible}
-use Rattle.field.specs.Reasons.{Reason, badField, badRows, badLength, badElement}
+use Rattle.field.specs.Reasons.{Reason, badLength, badElement}
 use Rattle.transform.specs.Transform.{scratchLength}
 use Rattle.circuit.specs.Ahead.{Labels}
-use Rattle.circuit.specs.Reasons.{selectorsLength, labelsLength, witnessLength, transcriptLength, badPublics, badLabel}
-
-abbrev pub shapeReasons : ℕ → ℕ → ℕ → List Reason
-shapeReasons p n l = badField p ∷ badRows p n ∷ badPublics l n ∷ []
+use Rattle.circuit.specs.Reasons.{selectorsLength, labelsLength, witnessLength, transcriptLength, badLabel}
 
 abbrev pub lengthReasons : (n l selectors labels witness publics transcript challenges scratch : ℕ) → List Reason
 lengthReasons n l selectors labels witness publics transcript challenges scratch =

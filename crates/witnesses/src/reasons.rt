@@ -1,28 +1,10 @@
 // The reasons of p, n, l and the buffers: document 01's 2 to 8. Nothing is written.
 ghost use mathlib.Core.Path.{_≡_};
-ghost use mathlib.Core.List.{_++_};
-ghost use Prim.Native.Nat.{_+_, _≤_};
-ghost use lib.ListN.{length};
-ghost use Rattle.field.specs.Reasons.{answerOf, firstAbove};
+ghost use Prim.Native.Nat.{_≤_};
+ghost use Rattle.field.specs.Reasons.{answerOf};
 ghost use Rattle.circuit.specs.Reasons.{proveReasons};
-ghost use Rattle.witnesses.specs.Deciding.{shapeReasons, lengthReasons, contentReasons, Few};
+ghost use Rattle.witnesses.specs.Deciding.{lengthReasons, contentReasons, Few};
 use field::Answer;
-
-// The reasons of p, n and l.
-fn shape(p: u32, n: u32, l: u32) -> Answer
-    ensures { λ r. ⌜ r ≡ answerOf (shapeReasons p n l) ⌝ }
-{
-    if !field::is_field(p) {
-        return field::refused(2, 0);
-    }
-    if !field::is_rows(p, n) {
-        return field::refused(3, 0);
-    }
-    if n < l {
-        return field::refused(4, 0);
-    }
-    field::accepted()
-}
 
 // The reasons of the buffers' lengths.
 fn lengths(
@@ -63,25 +45,6 @@ fn lengths(
     field::accepted()
 }
 
-// The place of the first number that is p or more, counted through the four buffers end to end; their length together where there is none.
-fn elements(
-    p: u32,
-    selectors: &[u32],
-    witness: &[u32],
-    publics: &[u32],
-    challenges: &[u32],
-) -> usize
-    requires { ⌜ length (now selectors) + length (now witness) + length (now publics) + length (now challenges) ≤ 65536 ⌝ }
-    ensures { λ r. ⌜ r ≡ firstAbove p (now (selectors .entry) ++ (now (witness .entry) ++ (now (publics .entry) ++ now (challenges .entry)))) ⌝ }
-{
-    let one = selectors.len();
-    let a = field::first_above(p, selectors);
-    let b = field::then_above(p, a, one, witness);
-    let two = one + witness.len();
-    let c = field::then_above(p, b, two, publics);
-    field::then_above(p, c, two + publics.len(), challenges)
-}
-
 // The reasons of the numbers and the labels in the buffers.
 fn contents(
     p: u32,
@@ -95,16 +58,9 @@ fn contents(
     requires { ⌜ Few n (now selectors) (now labels) (now witness) (now publics) (now challenges) ⌝ }
     ensures { λ r. ⌜ r ≡ answerOf (contentReasons p n (now (selectors .entry)) (now (labels .entry)) (now (witness .entry)) (now (publics .entry)) (now (challenges .entry))) ⌝ }
 {
-    let at = elements(p, selectors, witness, publics, challenges);
+    let at = field::first_of_four(p, selectors, witness, publics, challenges);
     let long = selectors.len() + witness.len() + publics.len() + challenges.len();
-    if at < long {
-        return field::refused(7, at as u32);
-    }
-    let place = field::first_above(3 * n, labels);
-    if place < labels.len() {
-        return field::refused(8, place as u32);
-    }
-    field::accepted()
+    circuit::decide_contents(n, at, long, labels)
 }
 
 // The reasons in order. The transcript and the scratch are looked at for their length only.
@@ -122,7 +78,7 @@ pub fn of_buffers(
 ) -> Answer
     ensures { λ r. ⌜ r ≡ answerOf (proveReasons p n l (now (selectors .entry)) (now (labels .entry)) (now (witness .entry)) (now (publics .entry)) (now (transcript .entry)) (now (challenges .entry)) (now (scratch .entry))) ⌝ }
 {
-    let first = shape(p, n, l);
+    let first = circuit::decide_shape(p, n, l);
     let number = first.number;
     if number != 0 {
         return first;

@@ -11,13 +11,13 @@ use Rattle.deposit.proofs.main.Tie as tie
 
 -- the text is within its buffer
 fits : (c : tie.After-deposit) → c .deposit .result .length ≤ length (c .deposit .last .1 .0)
-fits c = omega (arith, deposit-fits _ _ _ _ (c .deposit .ensures), c .deposit .kept .1 .0, c .before .before .before .before .before .before .output .ensures)
+fits c = omega (arith, deposit-fits _ _ _ _ (c .deposit .ensures), c .deposit .kept .1 .0, c .before .before .before .before .before .before .text-room .ensures)
 
-input-requires : tie.Need-input-requires
-input-requires c κs = search needs
+sheet-room-requires : tie.Need-sheet-room-requires
+sheet-room-requires c κs = search needs
 
-output-requires : tie.Need-output-requires
-output-requires c κs = search needs
+text-room-requires : tie.Need-text-room-requires
+text-room-requires c κs = search needs
 
 slice-aggregate-read-full : tie.Need-slice-aggregate-read-full
 slice-aggregate-read-full c = search needs
@@ -53,8 +53,8 @@ pub main-spec : {M : Type 1} → statement M
 main-spec =
     tie.close
     (tie.spec
-    input-requires
-    output-requires
+    sheet-room-requires
+    text-room-requires
     slice-aggregate-read-full
     read-full-requires
     array-share-prefix-sheet

@@ -1,7 +1,6 @@
 -- `laying::lay_z` meets its contract: z on the rows, interpolated in place. Assumes nothing.
 use mathlib.Core.Path.{_∙_}
 use mathlib.Core.List.{[]}
-use native.Mathlib.Omega.{arith}
 use borrow.Author.Needs.{needs}
 use Rattle.field.specs.Primes.{field-prime}
 use Rattle.circuit.specs.Circuit.{lentCircuit, lentWitness}

@@ -5,7 +5,7 @@ use lib.ListN.{length}
 use lib.Seq.{length-take-le}
 use borrow.Author.Needs.{needs}
 use Rattle.algebra.specs.Ends.{rest-length, both-parts}
-use Rattle.circuit.specs.Taken.{labels-of}
+use Rattle.circuit.specs.RightlyLent.{labels-of}
 use Rattle.preparing.proofs.fill_rows.Statement.{statement}
 use Rattle.preparing.proofs.fill_rows.Tie as tie
 

@@ -1,32 +1,48 @@
 -- `witnesses::decide` meets its contract: the reasons of the buffers, then those of the witness. Assumes nothing.
-use mathlib.Core.Path.{_≡_, ap, sym, _∙_}
+use mathlib.Core.Logic.{_≢_}
+use mathlib.Core.List.{List}
+use lib.ListN.{getD}
 use borrow.Author.Needs.{needs}
-use Rattle.field.specs.Reasons.{answerOf}
+use Rattle.algebra.specs.Lists.{All}
+use Rattle.field.specs.Reasons.{Reason}
+use Rattle.field.specs.ReasonLaws.{refused-first, refused-later}
+use Rattle.circuit.specs.Circuit.{lentCircuit, lentPublic, lentWitness}
 use Rattle.circuit.specs.Reasons.{proveReasons}
-use Rattle.witnesses.proofs.Decided.{by-buffers, by-witness, checked}
+use Rattle.witnesses.specs.Reasons.{witnessReasons}
+use Rattle.witnesses.proofs.Decided.{buffer-numbers, checked}
 use Rattle.witnesses.proofs.decide.Statement.{statement}
 use Rattle.witnesses.proofs.decide.Tie as tie
 
--- what is known past the reasons of the buffers
-known : (c : tie.Else1) → let a = c .before .before .before .before .before .before .before .before .before .args in answerOf (proveReasons (a .p) (a .n) (a .l) (a .selectors .now) (a .labels .now) (a .witness .now) (a .publics .now) (a .transcript .now) (a .challenges .now) (a .scratch .now)) .number ≡ 0
-known c = sym (ap (λ r. r .number) (c .before .of-buffers .ensures)) ∙ c .if1 .left
+-- the two parts
+abbrev first : tie.Start → List Reason
+first s = proveReasons (s .args .p) (s .args .n) (s .args .l) (s .args .selectors .now) (s .args .labels .now) (s .args .witness .now) (s .args .publics .now) (s .args .transcript .now) (s .args .challenges .now) (s .args .scratch .now)
+
+abbrev second : tie.Start → List Reason
+second s =
+    witnessReasons (s .args .p) (s .args .n) (lentCircuit (s .args .n) (s .args .selectors .now) (s .args .labels .now)) (lentPublic (s .args .publics .now)) (lentWitness (s .args .witness .now)) (getD (s .args .challenges .now) 0 0) (getD (s .args .challenges .now) 1 0)
+
+-- no reason of the first has number 0
+first-right : (s : tie.Start) → All (λ r. r .number ≢ 0) (first s)
+first-right s = buffer-numbers (s .args .p) (s .args .n) (s .args .l) (s .args .selectors .now) (s .args .labels .now) (s .args .witness .now) (s .args .publics .now) (s .args .transcript .now) (s .args .challenges .now) (s .args .scratch .now)
 
 of-buffers-requires : tie.Need-of-buffers-requires
 of-buffers-requires c κs = search needs
 
 returns : tie.Need-returns
 returns c =
-    let a = c .before .before .before .before .before .before .before .before .before .args in
-    let e = c .before .of-buffers .ensures in
-    e ∙ by-buffers (a .p) (a .n) (a .l) (a .selectors .now) (a .labels .now) (a .witness .now) (a .publics .now) (a .transcript .now) (a .challenges .now) (a .scratch .now) (λ u. c .if1 .taken (ap (λ r. r .number) e ∙ u))
+    let s = c .before .before .before .before .before .before .before .before .before in
+    refused-first (first s) (second s) (first-right s) _ (c .before .of-buffers .ensures) (c .if1 .taken)
 
 of-witness-requires : tie.Need-of-witness-requires
-of-witness-requires c κs = let a = c .before .before .before .before .before .before .before .before .before .args in checked (a .p) (a .n) (a .l) (a .selectors .now) (a .labels .now) (a .witness .now) (a .publics .now) (a .transcript .now) (a .challenges .now) (a .scratch .now) (known c)
+of-witness-requires c κs =
+    let s = c .before .before .before .before .before .before .before .before .before in
+    checked (s .args .p) (s .args .n) (s .args .l) (s .args .selectors .now) (s .args .labels .now) (s .args .witness .now) (s .args .publics .now) (s .args .transcript .now) (s .args .challenges .now) (s .args .scratch .now) _ (c .before .of-buffers .ensures) (c .if1 .left)
 
 returns-2 : tie.Need-returns-2
 returns-2 c =
-    let a = c .before .before .before .before .before .before .before .before .before .before .args in
-    c .of-witness .ensures ∙ by-witness (a .p) (a .n) (a .l) (a .selectors .now) (a .labels .now) (a .witness .now) (a .publics .now) (a .transcript .now) (a .challenges .now) (a .scratch .now) (known (c .before))
+    let d = c .before in
+    let s = d .before .before .before .before .before .before .before .before .before in
+    refused-later (first s) (second s) (first-right s) _ _ (d .before .of-buffers .ensures) (d .if1 .left) (c .of-witness .ensures)
 
 pub decide-spec : {M : Type 1} → statement M
 decide-spec = tie.close (tie.spec of-buffers-requires returns of-witness-requires returns-2)

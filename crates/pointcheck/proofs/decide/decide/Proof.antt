@@ -1,67 +1,76 @@
--- `pointcheck::decide::decide` meets its contract: the three groups of reasons are tested in order. Assumes nothing.
-use mathlib.Core.List.{_++_}
+-- `pointcheck::decide::decide` meets its contract: the three parts of the reasons, in order. Assumes nothing.
+use mathlib.Core.Logic.{_≢_}
+use mathlib.Core.List.{List, _++_}
 use native.Mathlib.Omega.{arith}
-use Rattle.field.specs.Primes.{rows-power}
-use Rattle.pointcheck.specs.Deciding.{sizeReasons, lengthReasons, elementReasons}
-use Rattle.pointcheck.proofs.Deciding.{Sizes, Lengths, sizes-right, lengths-right, sizes-known, lengths-known, refused-first, refused-later}
 use borrow.Author.Needs.{needs}
+use Rattle.algebra.specs.Lists.{All}
+use Rattle.field.specs.Primes.{rows-power}
+use Rattle.field.specs.Reasons.{Reason}
+use Rattle.field.specs.ReasonLaws.{refused-first, refused-later}
+use Rattle.circuit.specs.Reasons.{shapeReasons}
+use Rattle.circuit.specs.Shape.{Shape, shaped, shape-numbers}
+use Rattle.pointcheck.specs.Deciding.{lengthReasons, contentReasons}
+use Rattle.pointcheck.proofs.Deciding.{length-numbers, lengths-known}
 use Rattle.pointcheck.proofs.decide.decide.Statement.{statement}
 use Rattle.pointcheck.proofs.decide.decide.Tie as tie
 
--- what is known past each group
-first : (c : tie.Else1) → Sizes (c .before .before .before .before .before .before .before .args .p) (c .before .before .before .before .before .before .before .args .n) (c .before .before .before .before .before .before .before .args .l)
-first c = sizes-known _ _ _ _ (c .before .decide-sizes .ensures) (c .if1 .left)
+-- the three parts
+abbrev first : tie.Start → List Reason
+first s = shapeReasons (s .args .p) (s .args .n) (s .args .l)
 
-second : (c : tie.Else2) → let a = c .before .before .before .before .before .before .before .before .before .args in Lengths (a .n) (a .l) (a .publics .now) (a .prepared .now) (a .transcript .now) (a .challenges .now) (a .scratch .now)
-second c = lengths-known _ _ _ _ _ _ _ _ (c .before .decide-lengths .ensures) (c .if2 .left)
+abbrev second : tie.Start → List Reason
+second s = lengthReasons (s .args .n) (s .args .l) (s .args .publics .now) (s .args .prepared .now) (s .args .transcript .now) (s .args .challenges .now) (s .args .scratch .now)
 
-decide-sizes-requires : tie.Need-decide-sizes-requires
-decide-sizes-requires c κs = search needs
+abbrev third : tie.Start → List Reason
+third s = contentReasons (s .args .p) (s .args .publics .now) (s .args .prepared .now) (s .args .transcript .now) (s .args .challenges .now)
+
+-- none of their reasons has number 0
+first-right : (s : tie.Start) → All (λ r. r .number ≢ 0) (first s)
+first-right s = shape-numbers (s .args .p) (s .args .n) (s .args .l)
+
+second-right : (s : tie.Start) → All (λ r. r .number ≢ 0) (second s)
+second-right s = length-numbers (s .args .n) (s .args .l) (s .args .publics .now) (s .args .prepared .now) (s .args .transcript .now) (s .args .challenges .now) (s .args .scratch .now)
+
+-- the call, and what is known of p, n and l, past the first part
+abbrev start : tie.Else1 → tie.Start
+start c = c .before .before .before .before .before .before .before
+
+shape-known : (c : tie.Else1) → Shape (start c .args .p) (start c .args .n) (start c .args .l)
+shape-known c = shaped _ _ _ _ (c .before .decide-shape .ensures) (c .if1 .left)
+
+decide-shape-requires : tie.Need-decide-shape-requires
+decide-shape-requires c κs = search needs
 
 returns : tie.Need-returns
 returns c =
-    let a = c .before .before .before .before .before .before .before .args in
-    let sizes = sizeReasons (a .p) (a .n) (a .l) in
-    let lengths = lengthReasons (a .n) (a .l) (a .publics .now) (a .prepared .now) (a .transcript .now) (a .challenges .now) (a .scratch .now) in
-    let elements = elementReasons (a .p) (a .publics .now) (a .prepared .now) (a .transcript .now) (a .challenges .now) in
-    refused-first sizes (lengths ++ elements) (sizes-right (a .p) (a .n) (a .l)) _ (c .before .decide-sizes .ensures) (c .if1 .taken)
+    let s = c .before .before .before .before .before .before .before in
+    refused-first (first s) (second s ++ third s) (first-right s) _ (c .before .decide-shape .ensures) (c .if1 .taken)
 
-decide-lengths-requires : tie.Need-decide-lengths-requires
-decide-lengths-requires c κs =
-    let rows = rows-power _ _ (first (c) .admissible .rows) in
-    (rows .least, rows .small)
+lengths-requires : tie.Need-lengths-requires
+lengths-requires c κs = let rows = rows-power _ _ (shape-known c .admissible .rows) in (rows .least, rows .small)
 
 returns-2 : tie.Need-returns-2
 returns-2 c =
-    let a = c .before .before .before .before .before .before .before .before .before .args in
-    let sizes = sizeReasons (a .p) (a .n) (a .l) in
-    let lengths = lengthReasons (a .n) (a .l) (a .publics .now) (a .prepared .now) (a .transcript .now) (a .challenges .now) (a .scratch .now) in
-    let elements = elementReasons (a .p) (a .publics .now) (a .prepared .now) (a .transcript .now) (a .challenges .now) in
-    refused-later sizes (lengths ++ elements) (sizes-right (a .p) (a .n) (a .l)) _ _ (c .before .before .before .decide-sizes .ensures) (c .before .before .if1 .left)
-    (refused-first lengths elements (lengths-right (a .n) (a .l) (a .publics .now) (a .prepared .now) (a .transcript .now) (a .challenges .now) (a .scratch .now)) _ (c .before .decide-lengths .ensures) (c .if2 .taken))
+    let d = c .before .before in
+    let s = start d in
+    refused-later (first s) (second s ++ third s) (first-right s) _ _ (d .before .decide-shape .ensures) (d .if1 .left)
+    (refused-first (second s) (third s) (second-right s) _ (c .before .lengths .ensures) (c .if2 .taken))
 
-decide-elements-requires : tie.Need-decide-elements-requires
-decide-elements-requires c κs =
-    let s = first (c .before .before) in
-    let k = second (c) in
-    omega (arith, rows-power _ _ (s .admissible .rows) .small, s .few, k .publics-length, k .prepared-length, k .transcript-length, k .challenges-length)
+contents-requires : tie.Need-contents-requires
+contents-requires c κs =
+    let s = start (c .before .before) in
+    let shape = shape-known (c .before .before) in
+    let k = lengths-known (s .args .n) (s .args .l) (s .args .publics .now) (s .args .prepared .now) (s .args .transcript .now) (s .args .challenges .now) (s .args .scratch .now) _ (c .before .lengths .ensures) (c .if2 .left) in
+    omega (arith, rows-power _ _ (shape .admissible .rows) .small, shape .publics-few, k .publics-length, k .prepared-length, k .transcript-length, k .challenges-length)
 
 returns-3 : tie.Need-returns-3
 returns-3 c =
-    let a = c .before .before .before .before .before .before .before .before .before .before .args in
-    let sizes = sizeReasons (a .p) (a .n) (a .l) in
-    let lengths = lengthReasons (a .n) (a .l) (a .publics .now) (a .prepared .now) (a .transcript .now) (a .challenges .now) (a .scratch .now) in
-    let elements = elementReasons (a .p) (a .publics .now) (a .prepared .now) (a .transcript .now) (a .challenges .now) in
-    refused-later sizes (lengths ++ elements) (sizes-right (a .p) (a .n) (a .l)) _ _ (c .before .before .before .before .decide-sizes .ensures) (c .before .before .before .if1 .left)
-    (refused-later lengths elements (lengths-right (a .n) (a .l) (a .publics .now) (a .prepared .now) (a .transcript .now) (a .challenges .now) (a .scratch .now)) _ _ (c .before .before .decide-lengths .ensures) (c .before .if2 .left) (c .decide-elements .ensures))
+    let d = c .before .before .before in
+    let s = start d in
+    refused-later (first s) (second s ++ third s) (first-right s) _ _ (d .before .decide-shape .ensures) (d .if1 .left)
+    (refused-later (second s) (third s) (second-right s) _ _ (c .before .before .lengths .ensures) (c .before .if2 .left) (c .contents .ensures))
 
 pub decide-spec : {M : Type 1} → statement M
 decide-spec =
     tie.close
-    (tie.spec
-    decide-sizes-requires
-    returns
-    decide-lengths-requires
-    returns-2
-    decide-elements-requires
-    returns-3)
+    (tie.spec decide-shape-requires returns lengths-requires returns-2 contents-requires returns-3)

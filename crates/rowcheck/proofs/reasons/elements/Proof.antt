@@ -1,72 +1,42 @@
--- `rowcheck::reasons::elements` meets its contract: each buffer is passed after those before it. Assumes nothing.
-use mathlib.Core.Path.{_≡_, refl, sym, ap, ap₂, _∙_}
+-- `rowcheck::reasons::elements` meets its contract: the challenges are passed after the four buffers before them. Assumes nothing.
+use mathlib.Core.Path.{_≡_, ap, _∙_}
 use mathlib.Core.List.{List, _++_, append-assoc}
-use mathlib.Core.Bool.{cond}
 use Prim.Native.Nat.{ℕ, _+_}
-use lib.Dec.{ltb}
+use native.Mathlib.Omega.{arith}
 use lib.ListN.{length, length-append}
 use borrow.Author.Needs.{needs}
 use Rattle.field.specs.Reasons.{firstAbove}
-use Rattle.field.specs.ReasonLaws.{firstAbove-append}
+use Rattle.field.specs.ReasonLaws.{further}
 use Rattle.rowcheck.proofs.reasons.elements.Statement.{statement}
 use Rattle.rowcheck.proofs.reasons.elements.Tie as tie
 
--- one buffer more
-further : (p : ℕ) (xs ys : List ℕ) (at long r : ℕ) → at ≡ firstAbove p xs → long ≡ length xs → r ≡ cond (ltb at long) at (long + firstAbove p ys)
-    → r ≡ firstAbove p (xs ++ ys)
-further p xs ys at long r e f g =
-    g ∙ ap₂ (λ (a l : ℕ). cond (ltb a l) a (l + firstAbove p ys)) e f ∙ sym (firstAbove-append p xs ys)
+-- the first four buffers end to end
+abbrev four : tie.Start → List ℕ
+four s = s .args .selectors .now ++ (s .args .witness .now ++ (s .args .publics .now ++ s .args .z .now))
 
-first-above-requires : tie.Need-first-above-requires
-first-above-requires c κs = search needs
+long : (s : tie.Start) → length (s .args .selectors .now) + length (s .args .witness .now) + length (s .args .publics .now) + length (s .args .z .now) ≡ length (four s)
+long s = simp length-append (omega arith)
+
+first-of-four-requires : tie.Need-first-of-four-requires
+first-of-four-requires c κs = search needs
+
+add-long : tie.Need-add-long
+add-long c = search needs
+
+add-long-2 : tie.Need-add-long-2
+add-long-2 c = search needs
+
+add-long-3 : tie.Need-add-long-3
+add-long-3 c = search needs
 
 then-above-requires : tie.Need-then-above-requires
 then-above-requires c κs = search needs
 
-add-two : tie.Need-add-two
-add-two c = search needs
-
-then-above-requires-2 : tie.Need-then-above-requires-2
-then-above-requires-2 c κs = search needs
-
-add-three : tie.Need-add-three
-add-three c = search needs
-
-then-above-requires-3 : tie.Need-then-above-requires-3
-then-above-requires-3 c κs = search needs
-
-add-then-above : tie.Need-add-then-above
-add-then-above c = search needs
-
-then-above-requires-4 : tie.Need-then-above-requires-4
-then-above-requires-4 c κs = search needs
-
 returns : tie.Need-returns
 returns c =
-    let a = c .before .before .before .before .before .before .before .before .before .before .args in
-    let one = a .selectors .now in
-    let two = one ++ a .witness .now in
-    let three = two ++ a .publics .now in
-    let four = three ++ a .z .now in
-    let long-two = sym (length-append one (a .witness .now)) in
-    let long-three = ap (λ (k : ℕ). k + length (a .publics .now)) long-two ∙ sym (length-append two (a .publics .now)) in
-    let long-four = ap (λ (k : ℕ). k + length (a .z .now)) long-three ∙ sym (length-append three (a .z .now)) in
-    let at-two = further (a .p) one (a .witness .now) _ _ _ (c .before .before .before .before .first-above .ensures) refl (c .before .before .before .then-above .ensures) in
-    let at-three = further (a .p) two (a .publics .now) _ _ _ at-two long-two (c .before .before .then-above2 .ensures) in
-    let at-four = further (a .p) three (a .z .now) _ _ _ at-three long-three (c .before .then-above3 .ensures) in
-    further (a .p) four (a .challenges .now) _ _ _ at-four long-four (c .then-above4 .ensures)
-    ∙ ap (firstAbove (a .p)) (simp append-assoc)
+    let s = c .before .before .before .before .before .before .before in
+    further (s .args .p) (four s) (s .args .challenges .now) _ _ _ (c .before .first-of-four .ensures) (long s) (c .then-above .ensures)
+    ∙ ap (firstAbove (s .args .p)) (simp append-assoc)
 
 pub elements-spec : {M : Type 1} → statement M
-elements-spec =
-    tie.close
-    (tie.spec
-    first-above-requires
-    then-above-requires
-    add-two
-    then-above-requires-2
-    add-three
-    then-above-requires-3
-    add-then-above
-    then-above-requires-4
-    returns)
+elements-spec = tie.close (tie.spec first-of-four-requires add-long add-long-2 add-long-3 then-above-requires returns)

@@ -1,56 +1,75 @@
 -- `witnesses::reasons::of_buffers` meets its contract: the three parts of the reasons, in order. Assumes nothing.
-use mathlib.Core.Path.{_≡_, ap, sym, _∙_}
+use mathlib.Core.Logic.{_≢_}
+use mathlib.Core.List.{List, _++_}
 use native.Mathlib.Omega.{arith}
 use lib.ListN.{length}
 use borrow.Author.Needs.{needs}
+use Rattle.algebra.specs.Lists.{All}
 use Rattle.field.specs.Primes.{rows-power}
-use Rattle.field.specs.Reasons.{answerOf}
-use Rattle.witnesses.specs.Deciding.{shapeReasons, lengthReasons}
-use Rattle.witnesses.proofs.Decided.{in-first, in-second, in-third, shaped, few}
+use Rattle.field.specs.Reasons.{Reason}
+use Rattle.field.specs.ReasonLaws.{refused-first, refused-later}
+use Rattle.circuit.specs.Reasons.{shapeReasons}
+use Rattle.circuit.specs.Shape.{Shape, shaped, shape-numbers}
+use Rattle.witnesses.specs.Deciding.{lengthReasons, contentReasons}
+use Rattle.witnesses.proofs.Decided.{length-numbers, few}
 use Rattle.witnesses.proofs.reasons.of_buffers.Statement.{statement}
 use Rattle.witnesses.proofs.reasons.of_buffers.Tie as tie
 
--- what is known past each part
-shape-known : (c : tie.Else1) → let a = c .before .before .before .before .before .before .before .before .before .args in answerOf (shapeReasons (a .p) (a .n) (a .l)) .number ≡ 0
-shape-known c = sym (ap (λ r. r .number) (c .before .shape .ensures)) ∙ c .if1 .left
+-- the three parts
+abbrev first : tie.Start → List Reason
+first s = shapeReasons (s .args .p) (s .args .n) (s .args .l)
 
-lengths-known : (c : tie.Else2) → let a = c .before .before .before .before .before .before .before .before .before .before .before .args in
-    answerOf (lengthReasons (a .n) (a .l) (length (a .selectors .now)) (length (a .labels .now)) (length (a .witness .now)) (length (a .publics .now)) (length (a .transcript .now)) (length (a .challenges .now)) (length (a .scratch .now))) .number ≡ 0
-lengths-known c = sym (ap (λ r. r .number) (c .before .lengths .ensures)) ∙ c .if2 .left
+abbrev second : tie.Start → List Reason
+second s = lengthReasons (s .args .n) (s .args .l) (length (s .args .selectors .now)) (length (s .args .labels .now)) (length (s .args .witness .now)) (length (s .args .publics .now)) (length (s .args .transcript .now)) (length (s .args .challenges .now)) (length (s .args .scratch .now))
 
-shape-requires : tie.Need-shape-requires
-shape-requires c κs = search needs
+abbrev third : tie.Start → List Reason
+third s = contentReasons (s .args .p) (s .args .n) (s .args .selectors .now) (s .args .labels .now) (s .args .witness .now) (s .args .publics .now) (s .args .challenges .now)
+
+-- none of their reasons has number 0
+first-right : (s : tie.Start) → All (λ r. r .number ≢ 0) (first s)
+first-right s = shape-numbers (s .args .p) (s .args .n) (s .args .l)
+
+second-right : (s : tie.Start) → All (λ r. r .number ≢ 0) (second s)
+second-right s = length-numbers (s .args .n) (s .args .l) (length (s .args .selectors .now)) (length (s .args .labels .now)) (length (s .args .witness .now)) (length (s .args .publics .now)) (length (s .args .transcript .now)) (length (s .args .challenges .now)) (length (s .args .scratch .now))
+
+-- the call, and what is known of p, n and l, past the first part
+abbrev start : tie.Else1 → tie.Start
+start c = c .before .before .before .before .before .before .before .before .before
+
+shape-known : (c : tie.Else1) → Shape (start c .args .p) (start c .args .n) (start c .args .l)
+shape-known c = shaped _ _ _ _ (c .before .decide-shape .ensures) (c .if1 .left)
+
+decide-shape-requires : tie.Need-decide-shape-requires
+decide-shape-requires c κs = search needs
 
 returns : tie.Need-returns
 returns c =
-    let a = c .before .before .before .before .before .before .before .before .before .args in
-    let e = c .before .shape .ensures in
-    e ∙ in-first (a .p) (a .n) (a .l) (a .selectors .now) (a .labels .now) (a .witness .now) (a .publics .now) (a .transcript .now) (a .challenges .now) (a .scratch .now) (λ u. c .if1 .taken (ap (λ r. r .number) e ∙ u))
+    let s = c .before .before .before .before .before .before .before .before .before in
+    refused-first (first s) (second s ++ third s) (first-right s) _ (c .before .decide-shape .ensures) (c .if1 .taken)
 
 lengths-requires : tie.Need-lengths-requires
-lengths-requires c κs =
-    let a = c .before .before .before .before .before .before .before .before .before .args in
-    let rows = rows-power _ _ (shaped (a .p) (a .n) (a .l) (shape-known c) .rows) in
-    (omega (arith, rows .least), rows .small)
+lengths-requires c κs = let rows = rows-power _ _ (shape-known c .admissible .rows) in (omega (arith, rows .least), rows .small)
 
 returns-2 : tie.Need-returns-2
 returns-2 c =
-    let a = c .before .before .before .before .before .before .before .before .before .before .before .args in
-    let e = c .before .lengths .ensures in
-    e ∙ in-second (a .p) (a .n) (a .l) (a .selectors .now) (a .labels .now) (a .witness .now) (a .publics .now) (a .transcript .now) (a .challenges .now) (a .scratch .now) (shape-known (c .before .before)) (λ u. c .if2 .taken (ap (λ r. r .number) e ∙ u))
+    let d = c .before .before in
+    let s = start d in
+    refused-later (first s) (second s ++ third s) (first-right s) _ _ (d .before .decide-shape .ensures) (d .if1 .left)
+    (refused-first (second s) (third s) (second-right s) _ (c .before .lengths .ensures) (c .if2 .taken))
 
 contents-requires : tie.Need-contents-requires
 contents-requires c κs =
-    let a = c .before .before .before .before .before .before .before .before .before .before .before .args in
-    few (a .p) (a .n) (a .l) (a .selectors .now) (a .labels .now) (a .witness .now) (a .publics .now) (a .transcript .now) (a .challenges .now) (a .scratch .now) (shape-known (c .before .before)) (lengths-known c)
+    let s = start (c .before .before) in
+    few (s .args .p) (s .args .n) (s .args .l) (s .args .selectors .now) (s .args .labels .now) (s .args .witness .now) (s .args .publics .now) (s .args .transcript .now) (s .args .challenges .now) (s .args .scratch .now) _ (shape-known (c .before .before)) (c .before .lengths .ensures) (c .if2 .left)
 
 returns-3 : tie.Need-returns-3
 returns-3 c =
-    let a = c .before .before .before .before .before .before .before .before .before .before .before .before .args in
-    c .contents .ensures
-    ∙ in-third (a .p) (a .n) (a .l) (a .selectors .now) (a .labels .now) (a .witness .now) (a .publics .now) (a .transcript .now) (a .challenges .now) (a .scratch .now) (shape-known (c .before .before .before)) (lengths-known (c .before))
+    let d = c .before .before .before in
+    let s = start d in
+    refused-later (first s) (second s ++ third s) (first-right s) _ _ (d .before .decide-shape .ensures) (d .if1 .left)
+    (refused-later (second s) (third s) (second-right s) _ _ (c .before .before .lengths .ensures) (c .before .if2 .left) (c .contents .ensures))
 
 pub of-buffers-spec : {M : Type 1} → statement M
 of-buffers-spec =
     tie.close
-    (tie.spec shape-requires returns lengths-requires returns-2 contents-requires returns-3)
+    (tie.spec decide-shape-requires returns lengths-requires returns-2 contents-requires returns-3)

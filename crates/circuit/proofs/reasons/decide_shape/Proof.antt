@@ -1,11 +1,11 @@
--- `pointcheck::decide::decide_sizes` meets its contract: the reasons are tested in the order of their list. Assumes nothing.
+-- `circuit::reasons::decide_shape` meets its contract: the reasons are tested in the order of their list. Assumes nothing.
 use mathlib.Core.Path.{_≡_, sym, _∙_}
 use mathlib.Core.Bool.{true}
 use borrow.Author.Tests.{not-true, not-false, lt-ltb, le-ltb}
-use Rattle.field.specs.Fields.{isField, isRows}
 use borrow.Author.Needs.{needs}
-use Rattle.pointcheck.proofs.decide.decide_sizes.Statement.{statement}
-use Rattle.pointcheck.proofs.decide.decide_sizes.Tie as tie
+use Rattle.field.specs.Fields.{isField, isRows}
+use Rattle.circuit.proofs.reasons.decide_shape.Statement.{statement}
+use Rattle.circuit.proofs.reasons.decide_shape.Tie as tie
 
 -- what is known past each test
 field-known : (c : tie.Else1) → isField (c .before .before .args .p) ≡ true
@@ -44,8 +44,8 @@ accepted-requires c κs = search needs
 returns-4 : tie.Need-returns-4
 returns-4 c = c .accepted .ensures ∙ rw (field-known (c .before .before .before .before), rows-known (c .before .before), le-ltb _ _ (c .before .if3 .left))
 
-pub decide-sizes-spec : {M : Type 1} → statement M
-decide-sizes-spec =
+pub decide-shape-spec : {M : Type 1} → statement M
+decide-shape-spec =
     tie.close
     (tie.spec
     is-field-requires

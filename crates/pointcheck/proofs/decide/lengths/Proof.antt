@@ -1,9 +1,9 @@
--- `pointcheck::decide::decide_lengths` meets its contract: the reasons are tested in the order of their list. Assumes nothing.
+-- `pointcheck::decide::lengths` meets its contract: the reasons are tested in the order of their list. Assumes nothing.
 use mathlib.Core.Path.{_∙_}
 use borrow.Author.Tests.{eq-eqb, ne-eqb}
 use borrow.Author.Needs.{needs}
-use Rattle.pointcheck.proofs.decide.decide_lengths.Statement.{statement}
-use Rattle.pointcheck.proofs.decide.decide_lengths.Tie as tie
+use Rattle.pointcheck.proofs.decide.lengths.Statement.{statement}
+use Rattle.pointcheck.proofs.decide.lengths.Tie as tie
 
 refused-requires : tie.Need-refused-requires
 refused-requires c κs = search needs
@@ -53,8 +53,8 @@ accepted-requires c κs = search needs
 returns-6 : tie.Need-returns-6
 returns-6 c = c .accepted .ensures ∙ rw (eq-eqb _ _ (c .before .before .before .before .before .if1 .left), eq-eqb _ _ (c .before .before .before .before .if2 .left), eq-eqb _ _ (c .before .before .before .if3 .left), eq-eqb _ _ (c .before .before .if4 .left), eq-eqb _ _ (c .before .if5 .left))
 
-pub decide-lengths-spec : {M : Type 1} → statement M
-decide-lengths-spec =
+pub lengths-spec : {M : Type 1} → statement M
+lengths-spec =
     tie.close
     (tie.spec
     refused-requires
