@@ -54,72 +54,44 @@ fn worked(label: &[u8], l: u32, publics: &[u32], transcript: &[u32], challenges:
     );
 }
 
-fn verdicts() {
+// The sheet's transcript, with other public inputs and challenges.
+fn laid(label: &[u8], l: u32, publics: &[u32], challenges: &[u32]) {
     let transcript = [4, 15, 13, 7, 9, 14, 16, 2, 9, 12, 15];
-    let challenges = [1, 1, 2, 2];
-    worked(b"worked sheet", 0, &[], &transcript, &challenges);
-    worked(b"zeta on row 0", 0, &[], &transcript, &[1, 1, 2, 1]);
-    worked(b"zeta on row 1", 0, &[], &transcript, &[1, 1, 2, 16]);
-    worked(b"zeta 0", 0, &[], &transcript, &[1, 1, 2, 0]);
-    worked(b"another alpha", 0, &[], &transcript, &[1, 1, 3, 2]);
-    worked(
-        b"last coefficient changed",
-        0,
-        &[],
-        &[4, 15, 13, 7, 9, 14, 16, 2, 9, 12, 14],
-        &challenges,
-    );
-    worked(b"a public input of 1", 1, &[1], &transcript, &challenges);
-    worked(
-        b"two public inputs of 0",
-        2,
-        &[0, 0],
-        &transcript,
-        &challenges,
-    );
+    worked(label, l, publics, &transcript, challenges);
 }
 
-fn refusals() {
-    let transcript = [4, 15, 13, 7, 9, 14, 16, 2, 9, 12, 15];
-    let challenges = [1, 1, 2, 2];
-    worked(b"l above n", 3, &[0, 0, 0], &transcript, &challenges);
-    worked(
-        b"public inputs one too few",
-        1,
-        &[],
-        &transcript,
-        &challenges,
-    );
-    worked(
-        b"transcript one too short",
-        0,
-        &[],
-        &transcript[..10],
-        &challenges,
-    );
-    worked(
-        b"transcript one too long",
-        0,
-        &[],
-        &[4, 15, 13, 7, 9, 14, 16, 2, 9, 12, 15, 0],
-        &challenges,
-    );
-    worked(b"three challenges", 0, &[], &transcript, &challenges[..3]);
-    worked(
-        b"public input 17",
-        1,
-        &[17],
-        &[17, 15, 13, 7, 9, 14, 16, 2, 9, 12, 15],
-        &challenges,
-    );
-    worked(
-        b"coefficient 17",
-        0,
-        &[],
-        &[4, 15, 13, 7, 9, 14, 16, 2, 9, 12, 17],
-        &[1, 1, 2, 17],
-    );
-    worked(b"zeta 17", 0, &[], &transcript, &[1, 1, 2, 17]);
+// Other transcripts, with the sheet's challenges.
+fn other(label: &[u8], l: u32, publics: &[u32], transcript: &[u32]) {
+    worked(label, l, publics, transcript, &[1, 1, 2, 2]);
+}
+
+fn verdicts() {
+    laid(b"worked sheet", 0, &[], &[1, 1, 2, 2]);
+    laid(b"zeta on row 0", 0, &[], &[1, 1, 2, 1]);
+    laid(b"zeta on row 1", 0, &[], &[1, 1, 2, 16]);
+    laid(b"zeta 0", 0, &[], &[1, 1, 2, 0]);
+    laid(b"another alpha", 0, &[], &[1, 1, 3, 2]);
+    let changed = [4, 15, 13, 7, 9, 14, 16, 2, 9, 12, 14];
+    other(b"last coefficient changed", 0, &[], &changed);
+    laid(b"a public input of 1", 1, &[1], &[1, 1, 2, 2]);
+    laid(b"two public inputs of 0", 2, &[0, 0], &[1, 1, 2, 2]);
+}
+
+fn lengths() {
+    let long = [4, 15, 13, 7, 9, 14, 16, 2, 9, 12, 15, 0];
+    laid(b"l above n", 3, &[0, 0, 0], &[1, 1, 2, 2]);
+    laid(b"public inputs one too few", 1, &[], &[1, 1, 2, 2]);
+    other(b"transcript one too short", 0, &[], &long[..10]);
+    other(b"transcript one too long", 0, &[], &long);
+    laid(b"three challenges", 0, &[], &[1, 1, 2]);
+}
+
+fn elements() {
+    let large = [17, 15, 13, 7, 9, 14, 16, 2, 9, 12, 17];
+    let last = [4, 15, 13, 7, 9, 14, 16, 2, 9, 12, 17];
+    other(b"public input 17", 1, &[17], &large);
+    worked(b"coefficient 17", 0, &[], &last, &[1, 1, 2, 17]);
+    laid(b"zeta 17", 0, &[], &[1, 1, 2, 17]);
 }
 
 // Other primes, rows, prepared circuits and scratches.
@@ -222,7 +194,8 @@ fn counts() {
 
 pub fn run() {
     verdicts();
-    refusals();
+    lengths();
+    elements();
     buffers_lent();
     counts();
 }

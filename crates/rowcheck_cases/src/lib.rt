@@ -46,8 +46,8 @@ fn case(
     print::end();
 }
 
-// The worked circuit, with other contents, public inputs, z and challenges.
-fn worked(label: &[u8], l: u32, witness: &[u32], publics: &[u32], z: &[u32], challenges: &[u32]) {
+// The worked circuit, with other public inputs, contents, z and challenges.
+fn worked(label: &[u8], l: u32, publics: &[u32], witness: &[u32], z: &[u32], challenges: &[u32]) {
     let selectors = [0, 1, 0, 1, 16, 16, 1, 0, 0, 0];
     let labels = [0, 2, 1, 2, 2, 3];
     case(
@@ -64,111 +64,45 @@ fn worked(label: &[u8], l: u32, witness: &[u32], publics: &[u32], z: &[u32], cha
     );
 }
 
-fn verdicts() {
-    let contents = [2, 6, 3, 6, 6, 12];
-    let z = [1, 14];
-    let challenges = [1, 1];
-    worked(b"worked sheet", 0, &contents, &[], &z, &challenges);
-    worked(
-        b"last content 11",
-        0,
-        &[2, 6, 3, 6, 6, 11],
-        &[],
-        &z,
-        &challenges,
-    );
-    worked(b"z starts at 2", 0, &contents, &[], &[2, 11], &challenges);
-    worked(
-        b"wrong step to row 1",
-        0,
-        &contents,
-        &[],
-        &[1, 13],
-        &challenges,
-    );
-    worked(
-        b"row 1 as 5,7,12",
-        0,
-        &[2, 5, 3, 7, 6, 12],
-        &[],
-        &z,
-        &challenges,
-    );
-    worked(
-        b"row 1 as 5,7,12, beta 0",
-        0,
-        &[2, 5, 3, 7, 6, 12],
-        &[],
-        &challenges,
-        &[0, 1],
-    );
-    worked(
-        b"two public inputs of 0",
-        2,
-        &contents,
-        &[0, 0],
-        &z,
-        &challenges,
-    );
-    worked(b"a public input of 1", 1, &contents, &[1], &z, &challenges);
+// No public input.
+fn filled(label: &[u8], witness: &[u32], z: &[u32], challenges: &[u32]) {
+    worked(label, 0, &[], witness, z, challenges);
 }
 
-fn refusals() {
+// Other public inputs and z, with the sheet's contents and challenges.
+fn public(label: &[u8], l: u32, publics: &[u32], z: &[u32]) {
+    worked(label, l, publics, &[2, 6, 3, 6, 6, 12], z, &[1, 1]);
+}
+
+fn verdicts() {
     let contents = [2, 6, 3, 6, 6, 12];
-    let z = [1, 14];
-    let challenges = [1, 1];
-    worked(b"l above n", 3, &contents, &[0, 0, 0], &z, &challenges);
-    worked(
-        b"contents one too short",
-        0,
-        &[2, 6, 3, 6, 6],
-        &[],
-        &z,
-        &challenges,
-    );
-    worked(
-        b"public inputs one too many",
-        0,
-        &contents,
-        &[0],
-        &z,
-        &challenges,
-    );
-    worked(
-        b"z one too long",
-        0,
-        &contents,
-        &[],
-        &[1, 14, 0],
-        &challenges,
-    );
-    worked(b"three challenges", 0, &contents, &[], &z, &[1, 1, 1]);
-    worked(
-        b"content 16 taken",
-        0,
-        &[2, 6, 3, 6, 6, 16],
-        &[],
-        &z,
-        &challenges,
-    );
-    worked(
-        b"content 17",
-        0,
-        &[2, 6, 3, 6, 6, 17],
-        &[],
-        &[17, 14],
-        &challenges,
-    );
-    worked(
-        b"public input 17",
-        1,
-        &contents,
-        &[17],
-        &[17, 14],
-        &challenges,
-    );
-    worked(b"z 17", 0, &contents, &[], &[1, 17], &[17, 1]);
-    worked(b"challenge 17", 0, &contents, &[], &z, &[1, 17]);
+    let others = [2, 5, 3, 7, 6, 12];
+    filled(b"worked sheet", &contents, &[1, 14], &[1, 1]);
+    filled(b"last content 11", &[2, 6, 3, 6, 6, 11], &[1, 14], &[1, 1]);
+    filled(b"z starts at 2", &contents, &[2, 11], &[1, 1]);
+    filled(b"wrong step to row 1", &contents, &[1, 13], &[1, 1]);
+    filled(b"row 1 as 5,7,12", &others, &[1, 14], &[1, 1]);
+    filled(b"row 1 as 5,7,12, beta 0", &others, &[1, 1], &[0, 1]);
+    public(b"two public inputs of 0", 2, &[0, 0], &[1, 14]);
+    public(b"a public input of 1", 1, &[1], &[1, 14]);
+}
+
+fn lengths() {
+    let contents = [2, 6, 3, 6, 6, 12];
+    public(b"l above n", 3, &[0, 0, 0], &[1, 14]);
+    filled(b"contents one too short", &contents[..5], &[1, 14], &[1, 1]);
+    public(b"public inputs one too many", 0, &[0], &[1, 14]);
+    filled(b"z one too long", &contents, &[1, 14, 0], &[1, 1]);
+    filled(b"three challenges", &contents, &[1, 14], &[1, 1, 1]);
+}
+
+fn elements() {
+    let contents = [2, 6, 3, 6, 6, 12];
+    filled(b"content 16 taken", &[2, 6, 3, 6, 6, 16], &[1, 14], &[1, 1]);
+    filled(b"content 17", &[2, 6, 3, 6, 6, 17], &[17, 14], &[1, 1]);
+    public(b"public input 17", 1, &[17], &[17, 14]);
+    filled(b"z 17", &contents, &[1, 17], &[17, 1]);
+    filled(b"challenge 17", &contents, &[1, 14], &[1, 17]);
 }
 
 // Other primes, rows, selectors and labels.
@@ -213,6 +147,7 @@ fn circuits() {
 
 pub fn run() {
     verdicts();
-    refusals();
+    lengths();
+    elements();
     circuits();
 }
