@@ -3,7 +3,8 @@
 -- is then one between natural numbers, which `omega arith` proves by multiplying out. The elements are hypotheses `a < p`.
 --
 -- Rep p x   x is an element, and modulo p it is pos - neg
--- reps      the set by which `search` finds the two numbers
+-- rep-var, rep-add, rep-sub, rep-mul   the two numbers of an element, a sum, a difference, a product
+-- reps      the set of these four rules, by which `search` finds the two numbers
 -- ring      two elements are equal where the numbers that they stand for are
 --
 -- Between natural numbers with q for minus one, `Cong` and `omega` need no such tactic: see Congruence. Worked identities: Identities.

@@ -3,6 +3,7 @@
 -- Right s         what a sheet that is read has: admissible p and n, at most 256 rows, at most n public inputs, elements as challenges
 -- right-of        a sheet with answer number 0 has it
 -- READ INTO ARRAYS OF THE LENGTHS THAT ARE DUE
+-- Arrays          the arrays that are lent have these lengths
 -- read-answer     the answer is that of the definitions
 -- rows-few, publics-few   n and l are at most 256
 -- sheet-workable  the prover can be lent the numbers

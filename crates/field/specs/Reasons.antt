@@ -6,6 +6,7 @@
 -- badField p         2: p is none of the three primes
 -- badRows p n        3: n is no power of two, or outside its prime's bounds
 -- badLength k l m    6: the k-th buffer has l numbers where m are due
+-- firstAbove p xs    the place of the first number of xs that is p or more; the length where there is none
 -- badElement p xs    7: a number of xs is p or more; detail: the place of the first
 -- inverseReasons p x the reasons of `inverse`
 -- Inverts p x r      what `inverse` promises of its answer r

@@ -3,6 +3,7 @@
 -- THE STATEMENT
 -- Taken     of an accepted `prove`: `check_rows`, lent the values of its z, answers Pass; `prepare`, then `check_point` at any zeta, answers Accept
 -- THE THEOREM
+-- taken-laid     Taken holds of the transcript of the definitions, where no reason of the prover applies
 -- proved-taken   Taken holds of every accepted `prove`
 --
 -- A call's answer is any that keeps the call's promise: Proves, Prepares, ChecksRows, PointChecks.
