@@ -2,9 +2,10 @@
 --
 -- rest-length      the number of words behind a front that is written
 -- both-parts       the slice is then the two lists end to end
+-- rest-put         the rest behind a front of h words, replaced
 --
 -- Assumes nothing.
-use mathlib.Core.Path.{_≡_, refl, _∙_}
+use mathlib.Core.Path.{_≡_, refl, sym, _∙_}
 use mathlib.Core.List.{List, _++_, append-nil}
 use Prim.Native.Nat.{ℕ, _-_, _≤_}
 use native.Mathlib.Omega.{arith}
@@ -24,3 +25,8 @@ module _ (h : ℕ) (o e : List ℕ) (fits : h ≤ length o) (kept : length e ≡
   both-parts w a b f g =
       let z : length (e ++ drop h o) - h ≡ length (drop h o) = simp (length-append, length-drop) (omega (arith, front-length)) in
       rw (drop-at e (drop h o) h front-length, z, drop-length (drop h o), take-at e (drop h o) h front-length, append-nil w, f, g) refl
+
+pub rest-put : (h : ℕ) (l w : List ℕ) → putMid h (length l - h) l w ≡ take h l ++ w
+rest-put h l w =
+    let z : length l - h ≡ length (drop h l) = sym (length-drop h l) in
+    rw (z, drop-length (drop h l), append-nil w)

@@ -4,11 +4,16 @@
 -- first-is        `first` is
 -- first-some      where a number passes, the first one is no higher, and passes
 -- first-none      where none of 0 .. n - 1 passes, it is n
+-- first-le        it is at most n
+-- none-of         where it is n, none passes
+-- first-same      what is first is so once
+-- both-false, one-true   a test that is the disjunction of two: it fails where both fail; where it passes, one passes
 -- first-stop, first-skip, first-end   the loop: the test passes, it fails, there is nothing left
 --
 -- Assumes nothing.
 use mathlib.Core.Path.{_≡_, refl, sym, ap, _∙_}
-use mathlib.Core.Bool.{Bool, true, false}
+use mathlib.Core.Logic.{_⊎_, inl, inr}
+use mathlib.Core.Bool.{Bool, true, false, _||_, true≢false}
 use Prim.Native.Nat.{ℕ, zero, suc, _+_, _-_, _≤_, _<_}
 use native.Mathlib.Decide.{ℕ-discrete, decLt}
 use native.Mathlib.Numerals.{add-one}
@@ -46,10 +51,7 @@ pub first-some : (test : ℕ → Bool) (start count r : ℕ) → First test star
 first-some test start count r f j l h e = go (decLt j r)
   where
     go : Dec (j < r) → (r ≤ j) × (test r ≡ true)
-    go (yes k) = absurd (clash (sym e ∙ f .none j l k))
-      where
-        clash : true ≡ false → ⊥
-        clash u = let z : _≡_ {A = ℕ} 0 1 = cc in omega arith
+    go (yes k) = absurd (true≢false (sym e ∙ f .none j l k))
     go (no k) = (omega arith, f .hit (omega arith))
 
 pub first-none : (test : ℕ → Bool) (n : ℕ) → ((k : ℕ) → k < n → test k ≡ true → ⊥) → first test 0 n ≡ n
@@ -61,6 +63,30 @@ first-none test n h = go (decLt (first test 0 n) n)
     go : Dec (first test 0 n < n) → first test 0 n ≡ n
     go (yes l) = absurd (h (first test 0 n) l (f .hit (omega arith)))
     go (no l) = omega (arith, f .high)
+
+pub first-le : (test : ℕ → Bool) (m : ℕ) → first test 0 m ≤ m
+first-le test m = omega (arith, first-is test 0 m .high)
+
+pub none-of : (test : ℕ → Bool) (m : ℕ) → first test 0 m ≡ m → (k : ℕ) → k < m → test k ≡ false
+none-of test m e k l = first-is test 0 m .none k (omega arith) (omega arith)
+
+pub first-same : {test : ℕ → Bool} {n r s : ℕ} → First test 0 n r → First test 0 n s → r ≡ s
+first-same {test} {n} {r} {s} f g = go (decLt r s) (decLt s r)
+  where
+    go : Dec (r < s) → Dec (s < r) → r ≡ s
+    go (yes h) k = absurd (true≢false (sym (f .hit (omega (arith, g .high))) ∙ g .none r (omega arith) h))
+    go (no h) (yes k) = absurd (true≢false (sym (g .hit (omega (arith, f .high))) ∙ f .none s (omega arith) k))
+    go (no h) (no k) = omega arith
+
+-- A TEST THAT IS THE DISJUNCTION OF TWO
+
+pub both-false : (a b : Bool) → (a || b) ≡ false → (a ≡ false) × (b ≡ false)
+both-false true b e = absurd (true≢false e)
+both-false false b e = (refl, e)
+
+pub one-true : (a b : Bool) → (a || b) ≡ true → (a ≡ true) ⊎ (b ≡ true)
+one-true true b e = inl refl
+one-true false b e = inr e
 
 -- THE LOOP
 

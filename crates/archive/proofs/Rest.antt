@@ -3,18 +3,13 @@
 -- rest-cleared   what is left where zeros are put for all that stands from `at` on
 --
 -- Assumes nothing.
-use mathlib.Core.Path.{_≡_, sym, ap, _∙_}
-use mathlib.Core.List.{List, _++_, append-nil}
+use mathlib.Core.Path.{_≡_, ap, _∙_}
+use mathlib.Core.List.{List, _++_}
 use Prim.Native.Nat.{ℕ, _-_}
 use native.Mathlib.Omega.{arith}
 use lib.ListN.{length, take, drop, replicate, length-take, length-drop}
-use lib.Seq.{drop-length}
 use borrow.Rule.Slice.PartMut.{putMid}
-
-rest-put : (at : ℕ) (l w : List ℕ) → putMid at (length l - at) l w ≡ take at l ++ w
-rest-put at l w =
-    let z : length l - at ≡ length (drop at l) = sym (length-drop at l) in
-    rw (z, drop-length (drop at l), append-nil w)
+use Rattle.algebra.specs.Ends.{rest-put}
 
 pub rest-cleared : (at : ℕ) (l w : List ℕ) → w ≡ replicate (length (take (length l - at) (drop at l))) 0
     → putMid at (length l - at) l w ≡ take at l ++ replicate (length l - at) 0

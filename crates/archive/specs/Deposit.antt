@@ -1,6 +1,5 @@
 -- The text of a deposit, and what `deposit` promises.
 --
--- readAnswer s     the answer of reading the sheet into buffers of the right lengths
 -- depositText s    the text of a sheet: why it cannot be read, or else the text of its numbers
 -- depositReasons   of `deposit`; the sheet is its first buffer, and the text its second
 -- Deposits         refused: the buffer as it came; accepted: the text, and zeros behind it
@@ -12,15 +11,10 @@ use mathlib.Core.List.{List, [], _∷_, _++_}
 use Prim.Native.Nat.{ℕ, _*_, _-_}
 use lib.ListN.{length, replicate}
 use Rattle.algebra.specs.Lists.{tab}
-use Rattle.field.specs.declared.Answer.{Answer}
 use Rattle.field.specs.Reasons.{Reason, answerOf, isAccepted, badLength}
-use Rattle.sheet.specs.Sheet.{sheetP, sheetN, sheetL, onSelectors, onLabels, onWitness, onPublics, onChallenges, sheetReasons}
+use Rattle.sheet.specs.Sheet.{sheetP, sheetN, sheetL, onSelectors, onLabels, onWitness, onPublics, onChallenges, readAnswer}
 use Rattle.archive.specs.declared.Deposited.{Deposited}
 use Rattle.archive.specs.Printed.{refusedText, textLength, workText}
-
--- a sheet is read into buffers of the lengths that 256 rows need
-abbrev pub readAnswer : List ℕ → Answer
-readAnswer s = answerOf (sheetReasons s 1280 768 768 256 4)
 
 -- the numbers are those that the definitions read from the sheet, as they are lent
 unfoldable pub depositText : List ℕ → List ℕ

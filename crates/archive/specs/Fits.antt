@@ -20,7 +20,8 @@ use Rattle.protocol.specs.Lengths.{interpolation-length}
 use Rattle.archive.specs.declared.Deposited.{Deposited}
 use Rattle.archive.specs.Printed.{refusedWord, letterLine, refusedText, verdictText, textLength, provedText, workAnswer, workText}
 use Rattle.archive.specs.Lines.{length-line, length-wires}
-use Rattle.archive.specs.Deposit.{readAnswer, depositText, Deposits}
+use Rattle.sheet.specs.Sheet.{readAnswer}
+use Rattle.archive.specs.Deposit.{depositText, Deposits}
 use Rattle.archive.specs.Sheets.{right-of}
 
 either-fits : (b : Bool) (x y : List ℕ) → (b ≡ true → length x ≤ textLength) → length y ≤ textLength → length (cond b x y) ≤ textLength

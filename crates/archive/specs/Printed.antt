@@ -8,7 +8,7 @@
 -- refusedText r d        the line of a refusal: its number and its detail
 -- verdictText v          the line of a point verdict
 -- judgedText v           the same for the enum of `check_point`
--- transcriptText n l     the lines of a, b, c, z, t of a lent transcript
+-- transcriptText         the lines of a, b, c, z, t of a lent transcript
 -- textLength             the length of the lent buffer
 -- THE TEXT OF A DEPOSIT
 -- provedText             the five polynomials and the verdict, of a circuit, public inputs, a witness and beta, gamma, alpha, zeta
@@ -24,10 +24,9 @@ use Rattle.field.specs.Reasons.{answerOf, isAccepted}
 use Rattle.transform.specs.Transform.{scratchLength}
 use Rattle.circuit.specs.Circuit.{Circuit, lentCircuit, lentPublic, lentWitness}
 use Rattle.circuit.specs.Reasons.{transcriptLength}
-use Rattle.protocol.specs.Protocol.{prepared, wiresOf, zOf, tOf, proved, PointVerdict, accept, reject, part, pointVerdict}
+use Rattle.protocol.specs.Protocol.{prepared, wiresOf, zOf, tOf, proved, PointVerdict, accept, reject, part, pointVerdict, proveReasons}
 use Rattle.pointcheck.specs.declared.Judged.{Judged}
 use Rattle.pointcheck.specs.declared.Judged.the-variants.{None, Accept, Reject}
-use Rattle.witnesses.specs.Reasons.{proverReasons}
 use Rattle.text.specs.Text.{decimal}
 
 -- LINES
@@ -61,8 +60,8 @@ verdictText reject = rejectWord ++ (10 ∷ [])
 -- the same of the answer's enum; nothing where there is no verdict
 abbrev pub judgedText : Judged → List ℕ
 judgedText None = []
-judgedText Accept = acceptWord ++ (10 ∷ [])
-judgedText Reject = rejectWord ++ (10 ∷ [])
+judgedText Accept = verdictText accept
+judgedText Reject = verdictText reject
 
 abbrev pub textLength : ℕ
 textLength = 20480
@@ -86,7 +85,7 @@ provedText p n C x v beta gamma alpha zeta =
 unfoldable pub workAnswer : (p n l : ℕ) (selectors labels witness publics challenges : List ℕ) → Answer
 workAnswer p n l selectors labels witness publics challenges =
     answerOf
-    (proverReasons p n l selectors labels witness publics (replicate (transcriptLength n) 0) (take 3 challenges) (replicate (scratchLength n) 0))
+    (proveReasons p n l selectors labels witness publics (replicate (transcriptLength n) 0) (take 3 challenges) (replicate (scratchLength n) 0))
 
 unfoldable pub workText : (p n l : ℕ) (selectors labels witness publics challenges : List ℕ) → List ℕ
 workText p n l selectors labels witness publics challenges =

@@ -15,7 +15,7 @@
 -- Assumes nothing.
 use mathlib.Core.Path.{_≡_, refl, sym, ap, _∙_}
 use mathlib.Core.Logic.{_≢_}
-use mathlib.Core.Bool.{Bool, true, false, not, _||_}
+use mathlib.Core.Bool.{true, false, not}
 use mathlib.Core.List.{List, _++_, append-nil}
 use Prim.Native.Nat.{ℕ, _*_, _-_, _≤_, _<_}
 use native.Mathlib.Omega.{arith}
@@ -25,33 +25,26 @@ use lib.Seq.{take-at}
 use borrow.Author.Tests.{not-false, ltb-false, eq-eqb, ne-eqb}
 use Rattle.algebra.specs.Lists.{All, tab}
 use Rattle.algebra.specs.Polynomial.{Elements}
+use Rattle.algebra.specs.Search.{both-false}
 use Rattle.algebra.specs.Tables.{length-tab, all-right}
 use Rattle.field.specs.declared.Answer.{Answer}
 use Rattle.field.specs.Fields.{isRows, Admissible}
 use Rattle.field.specs.Primes.{rows-power}
 use Rattle.field.specs.Reasons.{isAccepted}
 use Rattle.field.specs.ReasonLaws.{none-applies, elements-of}
-use Rattle.sheet.specs.Sheet.{sheetP, sheetN, sheetL, onSelectors, onLabels, onWitness, onPublics, onChallenges, padded, sheetElements, sheetReasons}
+use Rattle.sheet.specs.Sheet.{sheetP, sheetN, sheetL, onSelectors, onLabels, onWitness, onPublics, onChallenges, padded, sheetElements, sheetReasons, readAnswer}
 use Rattle.sheet.specs.declared.SheetAnswer.{SheetAnswer}
 use Rattle.sheet.specs.Promises.{Reads}
 use Rattle.archive.specs.Printed.{refusedText, textLength, workText}
 use Rattle.archive.specs.Puts.{Puts}
 use Rattle.archive.specs.Work.{Workable}
-use Rattle.archive.specs.Deposit.{readAnswer, depositText, Deposits}
+use Rattle.archive.specs.Deposit.{depositText, Deposits}
 
 pub record Right (s : List ℕ) : Type 0 where
   pub admissible : Admissible (sheetP s) (sheetN s)
   pub few-rows : sheetN s ≤ 256
   pub few-publics : sheetL s ≤ sheetN s
   pub challenges-right : Elements (sheetP s) 4 (tab (onChallenges s (sheetN s) (sheetL s)) 4)
-
-or-left : (a b : Bool) → a || b ≡ false → a ≡ false
-or-left true b e = e
-or-left false b e = refl
-
-or-right : (a b : Bool) → a || b ≡ false → b ≡ false
-or-right true b e = absurd (let z : _≡_ {A = ℕ} 0 1 = cc in omega arith)
-or-right false b e = e
 
 pub right-of : (s : List ℕ) → readAnswer s .number ≡ 0 → Right s
 right-of s e =
@@ -65,8 +58,8 @@ right-of s e =
     let rows = none .1 .1 .0 in
     let all : All P (sheetElements s n l) = elements-of (sheetP s) _ (none .1 .1 .1 .1 .1 .1 .1 .1 .1 .1 .0) in
     record {
-      admissible = record { one-of-three = not-false _ (none .1 .0); rows = not-false _ (or-left _ (ltb 256 n) rows) };
-      few-rows = ltb-false 256 n (or-right (not (isRows (sheetP s) n)) _ rows);
+      admissible = record { one-of-three = not-false _ (none .1 .0); rows = not-false _ (both-false (not (isRows (sheetP s) n)) (ltb 256 n) rows .0) };
+      few-rows = ltb-false 256 n (both-false (not (isRows (sheetP s) n)) (ltb 256 n) rows .1);
       few-publics = ltb-false n l (none .1 .1 .1 .0);
       challenges-right = record {
         long = length-tab (onChallenges s n l) 4;

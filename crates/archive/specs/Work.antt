@@ -34,7 +34,7 @@ use Rattle.transform.specs.Transform.{scratchLength}
 use Rattle.circuit.specs.Circuit.{Circuit, lentCircuit, lentPublic, lentWitness}
 use Rattle.circuit.specs.Reasons.{preparedLength, transcriptLength}
 use Rattle.circuit.specs.RightlyLent.{RightCircuit, RightPublics, prepare-taken, point-taken}
-use Rattle.protocol.specs.Protocol.{prepared, wiresOf, zOf, tOf, proved, PointVerdict, accept, reject, pointVerdict}
+use Rattle.protocol.specs.Protocol.{prepared, wiresOf, zOf, tOf, proved, PointVerdict, accept, reject, pointVerdict, proveReasons}
 use Rattle.protocol.specs.Layout.{prepared-elements, wire-part, z-part, t-part, proved-elements}
 use Rattle.protocol.specs.Lengths.{interpolation-length}
 use Rattle.preparing.specs.Promises.{Prepares}
@@ -42,7 +42,6 @@ use Rattle.pointcheck.specs.declared.Judged.{Judged}
 use Rattle.pointcheck.specs.declared.Judged.the-variants.{None}
 use Rattle.pointcheck.specs.declared.PointAnswer.{PointAnswer}
 use Rattle.pointcheck.specs.Promises.{judgedAs, judgedAt, PointChecks}
-use Rattle.witnesses.specs.Reasons.{proverReasons}
 use Rattle.witnesses.specs.Accepted.{accepted-of}
 use Rattle.prover.specs.Promises.{provedFrom, Proves}
 use Rattle.archive.specs.Printed.{refusedText, judgedText, verdictText, transcriptText, textLength, provedText, workAnswer, workText}
@@ -86,7 +85,7 @@ checkedText p n selectors labels publics transcript challenges =
 
 pub work-reasons : (p n l : ℕ) (selectors labels witness publics transcript challenges scratch : List ℕ)
     → length transcript ≡ transcriptLength n → length scratch ≡ scratchLength n
-    → answerOf (proverReasons p n l selectors labels witness publics transcript (take 3 challenges) scratch)
+    → answerOf (proveReasons p n l selectors labels witness publics transcript (take 3 challenges) scratch)
     ≡ workAnswer p n l selectors labels witness publics challenges
 unfolding workAnswer
 work-reasons p n l selectors labels witness publics transcript challenges scratch e f =

@@ -2,7 +2,7 @@
 --
 -- position n c i            the position of column c and row i: c × n + i
 -- Circuit                   the selectors of a row and the label of a position
--- lentCircuit n s l         the circuit in lent selectors and labels, column after column: the one place that reads them
+-- lentCircuit n s l         the circuit in lent selectors and labels, column after column
 -- lentWitness w             the wire value of a position, in a lent witness (document 01: the contents)
 -- lentPublic x              the public input of a row, in lent public inputs (document 01: public numbers); 0 past their end
 -- permutation m label k     where the copy permutation leads from position k (document 01: the wiring): the next higher of the m positions with

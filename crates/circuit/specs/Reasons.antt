@@ -1,14 +1,14 @@
--- The lengths of the lent buffers, and each call's reasons for turning it down, in document 01's order.
+-- The lengths of the lent buffers, and the reasons for turning down a call that is lent a circuit or its polynomials, in document 01's order.
 --
 -- selectorsLength, labelsLength, witnessLength, preparedLength, quotientLength, transcriptLength   the numbers of each buffer, for n rows
 -- badPublics l n         4: l exceeds n
 -- badLabel n labels      8: a label is 3n or more; detail: the lowest such position
--- shapeReasons           the reasons of p, n and l, with which the calls that are lent public inputs begin
 -- permutationReasons     of `permutation`
 -- prepareReasons         of `prepare`
--- rowsReasons            of `check_rows`
--- pointReasons           of `check_point`
--- proveReasons           of `prove`, but for those of the witness (9, 10, 11)
+-- shapeReasons           the reasons of p, n and l, with which the calls below begin: 2, 3, 4
+-- rowsLengths, rowsNumbers, rowsReasons     of `check_rows`: its lengths (6), its elements and labels (7, 8), all
+-- pointLengths, pointNumbers, pointReasons  of `check_point`, likewise
+-- proveLengths, proveNumbers, proveBufferReasons   of `prove`, but for those that look at the witness (9, 10, 11)
 --
 -- Assumes nothing.
 use mathlib.Core.List.{List, [], _∷_, _++_}
@@ -42,9 +42,6 @@ badPublics l n = record { number = 4; detail = 0; applies = ltb n l }
 abbrev pub badLabel : ℕ → List ℕ → Reason
 badLabel n labels = record { number = 8; detail = firstAbove (3 * n) labels; applies = ltb (firstAbove (3 * n) labels) (length labels) }
 
-abbrev pub shapeReasons : ℕ → ℕ → ℕ → List Reason
-shapeReasons p n l = badField p ∷ badRows p n ∷ badPublics l n ∷ []
-
 abbrev pub permutationReasons : ℕ → ℕ → List ℕ → List ℕ → List Reason
 permutationReasons p n labels positions =
     badField p
@@ -66,46 +63,67 @@ prepareReasons p n selectors labels prepared scratch =
     ∷ badLabel n labels
     ∷ []
 
-abbrev pub rowsReasons : ℕ → ℕ → ℕ → List ℕ → List ℕ → List ℕ → List ℕ → List ℕ → List ℕ → List Reason
+abbrev pub shapeReasons : ℕ → ℕ → ℕ → List Reason
+shapeReasons p n l = badField p ∷ badRows p n ∷ badPublics l n ∷ []
+
+-- of `check_rows`
+abbrev pub rowsLengths : (n l selectors labels witness publics z challenges : ℕ) → List Reason
+rowsLengths n l selectors labels witness publics z challenges =
+    badLength 1 selectors (selectorsLength n)
+    ∷ badLength 2 labels (labelsLength n)
+    ∷ badLength 3 witness (witnessLength n)
+    ∷ badLength 4 publics l
+    ∷ badLength 5 z n
+    ∷ badLength 6 challenges 2
+    ∷ []
+
+abbrev pub rowsNumbers : (p n : ℕ) (selectors labels witness publics z challenges : List ℕ) → List Reason
+rowsNumbers p n selectors labels witness publics z challenges =
+    badElement p (selectors ++ (witness ++ (publics ++ (z ++ challenges)))) ∷ badLabel n labels ∷ []
+
+abbrev pub rowsReasons : (p n l : ℕ) (selectors labels witness publics z challenges : List ℕ) → List Reason
 rowsReasons p n l selectors labels witness publics z challenges =
-    badField p
-    ∷ badRows p n
-    ∷ badPublics l n
-    ∷ badLength 1 (length selectors) (selectorsLength n)
-    ∷ badLength 2 (length labels) (labelsLength n)
-    ∷ badLength 3 (length witness) (witnessLength n)
-    ∷ badLength 4 (length publics) l
-    ∷ badLength 5 (length z) n
-    ∷ badLength 6 (length challenges) 2
-    ∷ badElement p (selectors ++ (witness ++ (publics ++ (z ++ challenges))))
-    ∷ badLabel n labels
+    shapeReasons p n l
+    ++ (rowsLengths n l (length selectors) (length labels) (length witness) (length publics) (length z) (length challenges)
+    ++ rowsNumbers p n selectors labels witness publics z challenges)
+
+-- of `check_point`
+abbrev pub pointLengths : (n l publics prepared transcript challenges scratch : ℕ) → List Reason
+pointLengths n l publics prepared transcript challenges scratch =
+    badLength 1 publics l
+    ∷ badLength 2 prepared (preparedLength n)
+    ∷ badLength 3 transcript (transcriptLength n)
+    ∷ badLength 4 challenges 4
+    ∷ badLength 5 scratch (scratchLength n)
     ∷ []
 
-abbrev pub pointReasons : ℕ → ℕ → ℕ → List ℕ → List ℕ → List ℕ → List ℕ → List ℕ → List Reason
+abbrev pub pointNumbers : (p : ℕ) (publics prepared transcript challenges : List ℕ) → List Reason
+pointNumbers p publics prepared transcript challenges = badElement p (publics ++ (prepared ++ (transcript ++ challenges))) ∷ []
+
+abbrev pub pointReasons : (p n l : ℕ) (publics prepared transcript challenges scratch : List ℕ) → List Reason
 pointReasons p n l publics prepared transcript challenges scratch =
-    badField p
-    ∷ badRows p n
-    ∷ badPublics l n
-    ∷ badLength 1 (length publics) l
-    ∷ badLength 2 (length prepared) (preparedLength n)
-    ∷ badLength 3 (length transcript) (transcriptLength n)
-    ∷ badLength 4 (length challenges) 4
-    ∷ badLength 5 (length scratch) (scratchLength n)
-    ∷ badElement p (publics ++ (prepared ++ (transcript ++ challenges)))
+    shapeReasons p n l
+    ++ (pointLengths n l (length publics) (length prepared) (length transcript) (length challenges) (length scratch)
+    ++ pointNumbers p publics prepared transcript challenges)
+
+-- of `prove`, but for those that look at the witness
+abbrev pub proveLengths : (n l selectors labels witness publics transcript challenges scratch : ℕ) → List Reason
+proveLengths n l selectors labels witness publics transcript challenges scratch =
+    badLength 1 selectors (selectorsLength n)
+    ∷ badLength 2 labels (labelsLength n)
+    ∷ badLength 3 witness (witnessLength n)
+    ∷ badLength 4 publics l
+    ∷ badLength 5 transcript (transcriptLength n)
+    ∷ badLength 6 challenges 3
+    ∷ badLength 7 scratch (scratchLength n)
     ∷ []
 
-abbrev pub proveReasons : ℕ → ℕ → ℕ → List ℕ → List ℕ → List ℕ → List ℕ → List ℕ → List ℕ → List ℕ → List Reason
-proveReasons p n l selectors labels witness publics transcript challenges scratch =
-    badField p
-    ∷ badRows p n
-    ∷ badPublics l n
-    ∷ badLength 1 (length selectors) (selectorsLength n)
-    ∷ badLength 2 (length labels) (labelsLength n)
-    ∷ badLength 3 (length witness) (witnessLength n)
-    ∷ badLength 4 (length publics) l
-    ∷ badLength 5 (length transcript) (transcriptLength n)
-    ∷ badLength 6 (length challenges) 3
-    ∷ badLength 7 (length scratch) (scratchLength n)
-    ∷ badElement p (selectors ++ (witness ++ (publics ++ challenges)))
-    ∷ badLabel n labels
-    ∷ []
+abbrev pub proveNumbers : (p n : ℕ) (selectors labels witness publics challenges : List ℕ) → List Reason
+proveNumbers p n selectors labels witness publics challenges =
+    badElement p (selectors ++ (witness ++ (publics ++ challenges))) ∷ badLabel n labels ∷ []
+
+abbrev pub proveBufferReasons : (p n l : ℕ) (selectors labels witness publics transcript challenges scratch : List ℕ) → List Reason
+proveBufferReasons p n l selectors labels witness publics transcript challenges scratch =
+    shapeReasons p n l
+    ++ (proveLengths n l (length selectors) (length labels) (length witness) (length publics) (length transcript) (length challenges) (length scratch)
+    ++ proveNumbers p n selectors labels witness publics challenges)

@@ -39,8 +39,8 @@ labels-of {p} n labels e A =
       below = subst (λ (m : ℕ). Elements m (3 * n) labels) (sym (e .long)) e .below;
     }
 
-not-true : {b : Bool} → b ≡ true → not b ≡ false
-not-true e = rw e
+none-where : {b : Bool} → b ≡ true → not b ≡ false
+none-where e = rw e
 
 module _ {p n : ℕ} (A : Admissible p n) where
   pub prepare-taken : {selectors labels : List ℕ} (written scratch : List ℕ) → RightCircuit p n selectors labels
@@ -48,9 +48,9 @@ module _ {p n : ℕ} (A : Admissible p n) where
       → answerOf (prepareReasons p n selectors labels written scratch) ≡ record { number = 0; detail = 0 }
   prepare-taken {selectors} {labels} written scratch C w s =
       taken (prepareReasons p n selectors labels written scratch) (
-        not-true (A .one-of-three),
+        none-where (A .one-of-three),
         (
-          not-true (A .rows),
+          none-where (A .rows),
           (
             length-none (C .selectors-right .long),
             (
@@ -82,9 +82,9 @@ module _ {p n : ℕ} (A : Admissible p n) where
       all-append P selectors _ (C .selectors-right .below)
       (all-append P witness _ (w .below) (all-append P publics _ (X .elements .below) (all-append P z _ (u .below) (c .below)))) in
       taken (rowsReasons p n l selectors labels witness publics z challenges) (
-        not-true (A .one-of-three),
+        none-where (A .one-of-three),
         (
-          not-true (A .rows),
+          none-where (A .rows),
           (
             le-ltb n l (X .few),
             (
@@ -124,9 +124,9 @@ module _ {p n : ℕ} (A : Admissible p n) where
       let all : All P (publics ++ (prepared ++ (transcript ++ challenges))) =
       all-append P publics _ (X .elements .below) (all-append P prepared _ (u .below) (all-append P transcript _ (t .below) (c .below))) in
       taken (pointReasons p n l publics prepared transcript challenges scratch) (
-        not-true (A .one-of-three),
+        none-where (A .one-of-three),
         (
-          not-true (A .rows),
+          none-where (A .rows),
           (
             le-ltb n l (X .few),
             (

@@ -24,8 +24,8 @@ pub fn decide_shape(p: u32, n: u32, l: u32) -> Answer
     field::accepted()
 }
 
-// The reasons of what the buffers hold. `at` is the place of the first number that is p or more, among `long` numbers; `long` stands for none.
-pub fn decide_contents(n: u32, at: usize, long: usize, labels: &[u32]) -> Answer
+// The reasons of the numbers in the buffers, elements and labels. `at` is the place of the first number that is p or more, among `long` numbers; `long` stands for none.
+pub fn decide_numbers(n: u32, at: usize, long: usize, labels: &[u32]) -> Answer
     requires { ⌜ (n ≤ 1024) × (long ≤ 65536) × (length (now labels) ≤ 65536) ⌝ }
     ensures { λ r. ⌜ r ≡ answerOf (record { number = 7; detail = at; applies = ltb at long } ∷ badLabel n (now (labels .entry)) ∷ []) ⌝ }
 {

@@ -1,1 +1,2 @@
+-- Definitions, then theorems.
 pub mod Answers

@@ -1,4 +1,4 @@
-// The public calls for callers in C and Rust, each under its plain name.
+// The public calls, but for `polynomial`, for callers in C and Rust, each under its name with the prefix guppyspoon_.
 //
 // Numbers are passed as themselves. A slice is passed as two arguments, a pointer to its first number and its length in numbers (bytes
 // for a sheet and a text, words else):

@@ -24,7 +24,7 @@ use lib.ListN.{length, getD, length-append, List·getD-append}
 use lib.Seq.{getD-append-add}
 use borrow.Author.Tests.{ltb-false, leb-false, leb-true, lt-ltb, le-ltb, eq-eqb, ne-eqb}
 use Rattle.algebra.specs.Lists.{All}
-use Rattle.algebra.specs.Search.{First, first-is, first-none}
+use Rattle.algebra.specs.Search.{First, first-is, first-none, first-same}
 use Rattle.algebra.specs.Tables.{all-getD, all-of}
 use Rattle.field.specs.declared.Answer.{Answer}
 use Rattle.field.specs.Reasons.{Reason, answerOf, isAccepted, firstAbove}
@@ -85,18 +85,6 @@ elements-none p xs a =
 pub firstAbove-le : (p : ℕ) (xs : List ℕ) → firstAbove p xs ≤ length xs
 unfolding firstAbove
 firstAbove-le p xs = omega (arith, first-is (λ k. leb p (getD xs k 0)) 0 (length xs) .high)
-
--- what is first is so once
-not-both : {b : Bool} → b ≡ true → b ≡ false → ⊥
-not-both e f = let z : _≡_ {A = ℕ} 0 1 = cc in omega arith
-
-first-same : {test : ℕ → Bool} {n r s : ℕ} → First test 0 n r → First test 0 n s → r ≡ s
-first-same {test} {n} {r} {s} f g = go (decLt r s) (decLt s r)
-  where
-    go : Dec (r < s) → Dec (s < r) → r ≡ s
-    go (yes h) k = absurd (not-both (f .hit (omega (arith, g .high))) (g .none r (omega arith) h))
-    go (no h) (yes k) = absurd (not-both (g .hit (omega (arith, f .high))) (f .none s (omega arith) k))
-    go (no h) (no k) = omega arith
 
 module _ (p : ℕ) (xs ys : List ℕ) where
   above : List ℕ → ℕ → Bool

@@ -19,8 +19,7 @@ use Rattle.field.specs.Fields.{Admissible}
 use Rattle.field.specs.Reasons.{Reason, answerOf}
 use Rattle.field.specs.ReasonLaws.{none-applies, elements-of}
 use Rattle.transform.specs.Transform.{scratchLength}
-use Rattle.circuit.specs.Reasons.{preparedLength, transcriptLength, pointReasons}
-use Rattle.pointcheck.specs.Deciding.{lengthReasons}
+use Rattle.circuit.specs.Reasons.{preparedLength, transcriptLength, pointReasons, pointLengths}
 use Rattle.pointcheck.specs.Buffers.{Checked}
 
 module _ (n l : ℕ) (publics prepared transcript challenges scratch : List ℕ) where
@@ -32,12 +31,12 @@ module _ (n l : ℕ) (publics prepared transcript challenges scratch : List ℕ)
     pub scratch-length : length scratch ≡ scratchLength n
 
   abbrev reasons : List Reason
-  reasons = lengthReasons n l publics prepared transcript challenges scratch
+  reasons = pointLengths n l (length publics) (length prepared) (length transcript) (length challenges) (length scratch)
 
-  pub length-numbers : All (λ r. r .number ≢ 0) (lengthReasons n l publics prepared transcript challenges scratch)
+  pub length-numbers : All (λ r. r .number ≢ 0) (pointLengths n l (length publics) (length prepared) (length transcript) (length challenges) (length scratch))
   length-numbers = (omega arith, (omega arith, (omega arith, (omega arith, (omega arith, tt)))))
 
-  pub lengths-known : (a : Answer) → a ≡ answerOf (lengthReasons n l publics prepared transcript challenges scratch) → a .number ≡ 0 → Lengths
+  pub lengths-known : (a : Answer) → a ≡ answerOf (pointLengths n l (length publics) (length prepared) (length transcript) (length challenges) (length scratch)) → a .number ≡ 0 → Lengths
   lengths-known a e h =
       let none = none-applies reasons length-numbers (sym (ap (λ (b : Answer). b .number) e) ∙ h) in
       record {

@@ -3,8 +3,7 @@ ghost use mathlib.Core.Path.{_≡_};
 ghost use Prim.Native.Nat.{_+_, _≤_};
 ghost use lib.ListN.{length};
 ghost use Rattle.field.specs.Reasons.{answerOf};
-ghost use Rattle.circuit.specs.Reasons.{pointReasons};
-ghost use Rattle.pointcheck.specs.Deciding.{lengthReasons, contentReasons};
+ghost use Rattle.circuit.specs.Reasons.{pointReasons, pointLengths, pointNumbers};
 use field::Answer;
 
 // The reasons of the buffers' lengths, m being the number of rows and l the number of public inputs.
@@ -18,7 +17,7 @@ fn lengths(
     scratch: &[u32],
 ) -> Answer
     requires { ⌜ (2 ≤ m) × (m ≤ 1024) ⌝ }
-    ensures { λ r. ⌜ r ≡ answerOf (lengthReasons m l (now (publics .entry)) (now (prepared .entry)) (now (transcript .entry)) (now (challenges .entry)) (now (scratch .entry))) ⌝ }
+    ensures { λ r. ⌜ r ≡ answerOf (pointLengths m l (length (now (publics .entry))) (length (now (prepared .entry))) (length (now (transcript .entry))) (length (now (challenges .entry))) (length (now (scratch .entry)))) ⌝ }
 {
     if publics.len() != l {
         return field::refused(6, 1);
@@ -39,7 +38,7 @@ fn lengths(
 }
 
 // The reason of the numbers in the buffers that are read.
-fn contents(
+fn numbers(
     p: u32,
     publics: &[u32],
     prepared: &[u32],
@@ -47,7 +46,7 @@ fn contents(
     challenges: &[u32],
 ) -> Answer
     requires { ⌜ length (now publics) + length (now prepared) + length (now transcript) + length (now challenges) ≤ 65536 ⌝ }
-    ensures { λ r. ⌜ r ≡ answerOf (contentReasons p (now (publics .entry)) (now (prepared .entry)) (now (transcript .entry)) (now (challenges .entry))) ⌝ }
+    ensures { λ r. ⌜ r ≡ answerOf (pointNumbers p (now (publics .entry)) (now (prepared .entry)) (now (transcript .entry)) (now (challenges .entry))) ⌝ }
 {
     let at = field::first_of_four(p, publics, prepared, transcript, challenges);
     if at < publics.len() + prepared.len() + transcript.len() + challenges.len() {
@@ -87,5 +86,5 @@ pub fn decide(
     if number != 0 {
         return second;
     }
-    contents(p, publics, prepared, transcript, challenges)
+    numbers(p, publics, prepared, transcript, challenges)
 }

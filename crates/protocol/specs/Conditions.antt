@@ -9,7 +9,7 @@
 -- Assumes nothing.
 use mathlib.Core.Path.{_≡_, refl, sym, ap, _∙_, subst}
 use mathlib.Core.Logic.{_⊎_, inl, inr}
-use mathlib.Core.Bool.{Bool, true, false, not, _&&_}
+use mathlib.Core.Bool.{Bool, true, false, not, _&&_, _||_}
 use mathlib.Core.List.{[], _∷_}
 use Prim.Native.Nat.{ℕ, zero, suc, _+_, _*_, _%_, _<_}
 use native.Mathlib.Decide.{ℕ-discrete, decLt}
@@ -19,14 +19,11 @@ use borrow.Author.Tests.{eqb-true, eqb-false, eq-eqb, ltb-true, ltb-false, not-f
 use Rattle.algebra.specs.Modular.{first}
 use Rattle.algebra.specs.Lists.{AtMost}
 use Rattle.algebra.specs.Congruence.{Cong, cong, _⨾_, back, cong-lt, cong-cancel, cong-0, is-0}
-use Rattle.algebra.specs.Search.{first-is, first-none}
+use Rattle.algebra.specs.Search.{first-is, first-none, none-of, both-false, one-true}
 use Rattle.algebra.specs.Counting.{at-most-of, at-most-none, at-most-or, at-most-pairs}
 use Rattle.circuit.specs.Circuit.{Circuit, position, gate, Satisfies}
 use Rattle.circuit.specs.Positions.{by-position}
 use Rattle.protocol.specs.Protocol.{factor, wiredTag, brokenGate, brokenCopy, zeroFactor}
-
-none-of : (test : ℕ → Bool) (m : ℕ) → first test 0 m ≡ m → (k : ℕ) → k < m → test k ≡ false
-none-of test m e k l = first-is test 0 m .none k (omega arith) (omega arith)
 
 -- 9 AND 10
 
@@ -79,11 +76,6 @@ module _ (p n : ℕ) (C : Circuit) (x v : ℕ → ℕ) where
 
 -- 11
 
-zero-product : (a b : ℕ) → a * b ≡ 0 → (a ≡ 0) ⊎ (b ≡ 0)
-zero-product zero b e = inl refl
-zero-product (suc a) zero e = inr refl
-zero-product (suc a) (suc b) e = absurd (omega arith)
-
 module _ (p n : ℕ) (C : Circuit) (v : ℕ → ℕ) where
   -- the factor of D at position k is zero
   abbrev Zero : ℕ → ℕ → ℕ → Type 0
@@ -93,36 +85,39 @@ module _ (p n : ℕ) (C : Circuit) (v : ℕ → ℕ) where
     abbrev f : ℕ → ℕ → ℕ
     f i c = factor (wiredTag p n C) v beta gamma (position n c i) % p
 
+    abbrev test : ℕ → Bool
+    test i = eqb (f i 0) 0 || eqb (f i 1) 0 || eqb (f i 2) 0
+
     pub factors-nonzero : zeroFactor p n C v beta gamma ≡ n → (k : ℕ) → k < 3 * n → Cong p (factor (wiredTag p n C) v beta gamma k) 0 → ⊥
     unfolding zeroFactor
     factors-nonzero e = by-position n (λ k. Zero beta gamma k → ⊥) at
       where
-        row : (i : ℕ) → i < n → f i 0 * f i 1 * f i 2 ≡ 0 → ⊥
-        row i l h = eqb-false _ 0 (none-of _ n e i l) h
+        row : (i : ℕ) → i < n → (eqb (f i 0) 0 ≡ false) × (eqb (f i 1) 0 ≡ false) × (eqb (f i 2) 0 ≡ false)
+        row i l =
+            let last = both-false (eqb (f i 0) 0 || eqb (f i 1) 0) (eqb (f i 2) 0) (none-of test n e i l) in
+            let two = both-false (eqb (f i 0) 0) (eqb (f i 1) 0) (last .0) in
+            (two .0, two .1, last .1)
 
         at : (c i : ℕ) → c < 3 → i < n → Zero beta gamma (position n c i) → ⊥
-        at zero i h l u = let z : f i 0 ≡ 0 = is-0 u in row i l (rw z (omega arith))
-        at (suc zero) i h l u = let z : f i 1 ≡ 0 = is-0 u in row i l (rw z (omega arith))
-        at (suc (suc zero)) i h l u = let z : f i 2 ≡ 0 = is-0 u in row i l (rw z (omega arith))
+        at zero i h l u = eqb-false (f i 0) 0 (row i l .0) (is-0 u)
+        at (suc zero) i h l u = eqb-false (f i 1) 0 (row i l .1) (is-0 u)
+        at (suc (suc zero)) i h l u = eqb-false (f i 2) 0 (row i l .2) (is-0 u)
         at (suc (suc (suc c))) i h l u = absurd (omega arith)
 
     zero-at : zeroFactor p n C v beta gamma < n → (k : ℕ) × (k < 3 * n) × Zero beta gamma k
     unfolding zeroFactor
-    zero-at l = go (zero-product (f i 0 * f i 1) (f i 2) (eqb-true _ 0 (first-is test 0 n .hit (omega arith))))
+    zero-at l = go (one-true _ _ (first-is test 0 n .hit (omega arith)))
       where
-        test : ℕ → Bool
-        test i = eqb (f i 0 * f i 1 * f i 2) 0
-
         i : ℕ
         i = first test 0 n
 
-        at : (f i 0 ≡ 0) ⊎ (f i 1 ≡ 0) → (k : ℕ) × (k < 3 * n) × Zero beta gamma k
-        at (inl u) = (position n 0 i, omega arith, cong-0 u)
-        at (inr u) = (position n 1 i, omega arith, cong-0 u)
-
-        go : (f i 0 * f i 1 ≡ 0) ⊎ (f i 2 ≡ 0) → (k : ℕ) × (k < 3 * n) × Zero beta gamma k
-        go (inr e) = (position n 2 i, omega arith, cong-0 e)
-        go (inl e) = at (zero-product (f i 0) (f i 1) e)
+        go : ((eqb (f i 0) 0 || eqb (f i 1) 0) ≡ true) ⊎ (eqb (f i 2) 0 ≡ true) → (k : ℕ) × (k < 3 * n) × Zero beta gamma k
+        go (inr e) = (position n 2 i, omega arith, cong-0 (eqb-true (f i 2) 0 e))
+        go (inl e) = in-two (one-true _ _ e)
+          where
+            in-two : (eqb (f i 0) 0 ≡ true) ⊎ (eqb (f i 1) 0 ≡ true) → (k : ℕ) × (k < 3 * n) × Zero beta gamma k
+            in-two (inl e) = (position n 0 i, omega arith, cong-0 (eqb-true (f i 0) 0 e))
+            in-two (inr e) = (position n 1 i, omega arith, cong-0 (eqb-true (f i 1) 0 e))
 
   -- for each beta, a position has at most one gamma
   one-gamma : (beta k : ℕ) → AtMost 1 (λ (gamma : ℕ). (gamma < p) × Zero beta gamma k)

@@ -1,7 +1,6 @@
 -- Demand 3, the soundness and the completeness of the protocol, for every admissible p and n. Each challenge runs over 0 to p - 1.
 --
 -- THE STATEMENT
--- valueAt p n f i                    the value of f at row i's point
 -- witnessOf p n wire                 the wire values that are the values of three wires at the domain points (document 01: the contents)
 -- PassingPair p n C x wire s         the pair s = (beta, gamma) is one for which some z passes the row check
 -- HoldingAlpha p n C x wire z s a    the alpha a is one for which some quotient t holds as polynomials
@@ -28,6 +27,7 @@ use Rattle.algebra.specs.Counting.{at-most-of}
 use Rattle.field.specs.Fields.{Admissible, point}
 use Rattle.field.specs.Domain.{Domain, domain}
 use Rattle.transform.specs.Interpolation.{rows-positive}
+use Rattle.transform.specs.Transform.{valueAt}
 use Rattle.circuit.specs.Circuit.{Circuit, position, Satisfies}
 use Rattle.circuit.specs.Reasons.{preparedLength, quotientLength, transcriptLength}
 use Rattle.circuit.specs.Positions.{position-column, position-row}
@@ -40,9 +40,6 @@ use Rattle.protocol.specs.Conditions.{factors-nonzero, few-zero-factors}
 use Rattle.protocol.specs.Completeness.{z-passes, t-holds, accepts}
 
 -- THE STATEMENT
-
-abbrev pub valueAt : ℕ → ℕ → List ℕ → ℕ → ℕ
-valueAt p n f i = eval f (point p n i) % p
 
 -- document 01: the contents are the values of the three wire polynomials at the row points
 abbrev pub witnessOf : ℕ → ℕ → (ℕ → List ℕ) → ℕ → ℕ

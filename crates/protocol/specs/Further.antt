@@ -1,4 +1,4 @@
--- Further cases of the definitions, with values that a reference program found: sheets over each of the three primes, all with public inputs, so
+-- Further cases of the definitions, with values that a program not kept here found: sheets over each of the three primes, all with public inputs, so
 -- that a wrong sign of the public input shows. Tags, N, D, z, prepared polynomials, transcripts, both verdicts, and where 9, 10 and 11 apply.
 --
 -- Sheet, circuit, publics, witness     a sheet of document 01 as its numbers are lent, and what the definitions read in it
@@ -69,7 +69,7 @@ broken s =
     ∷ brokenCopy (s .n) (circuit s) (witness s)
     ∷ zeroFactor (s .p) (s .n) (circuit s) (witness s) (s .beta) (s .gamma) ∷ []
 
--- THE SHEETS (the number is that of the reference's sheet)
+-- THE SHEETS (the number is that of the sheet in crates/vectors/data)
 
 -- 097
 abbrev seventeen : Sheet

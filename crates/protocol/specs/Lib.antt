@@ -7,6 +7,7 @@ pub mod Rows
 pub mod Values
 pub mod Lengths
 pub mod Layout
+pub mod Numbered
 pub mod Pairing
 pub mod Points
 pub mod Challenges

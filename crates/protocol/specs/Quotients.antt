@@ -5,18 +5,18 @@
 -- quotient-holds     the quotient t of F, for an F of at most 4n - 3 coefficients
 --
 -- Assumes nothing.
-use mathlib.Core.Path.{_≡_, sym, ap, _∙_}
+use mathlib.Core.Path.{refl, sym, _∙_}
 use mathlib.Core.List.{List}
 use Prim.Native.Nat.{ℕ, suc, _+_, _*_, _-_, _≤_, _<_, pred}
-use native.Mathlib.Decide.{decLt}
 use native.Mathlib.Omega.{arith}
 use lib.ListN.{length}
 use Rattle.algebra.specs.Lists.{tab}
-use Rattle.algebra.specs.Polynomial.{coef, eval, scaleP, shift, timesVanishing, quotientVanishing, reduced, SameP}
-use Rattle.algebra.specs.Congruence.{Cong, cong, _⨾_, cong-add, cong-on}
+use Rattle.algebra.specs.Polynomial.{eval, scaleP, shift, timesVanishing, quotientVanishing, reduced, SameP}
+use Rattle.algebra.specs.Congruence.{Cong, cong}
 use Rattle.algebra.specs.Tables.{length-tab}
-use Rattle.algebra.specs.PolynomialLaws.{coef-add, coef-scale, coef-shift-low, coef-shift-high, reduced-same}
+use Rattle.algebra.specs.PolynomialLaws.{reduced-same}
 use Rattle.algebra.specs.Division.{length-quotient, division-exact}
+use Rattle.algebra.specs.Same.{same-add, same-scale, same-shift}
 use Rattle.field.specs.Fields.{point}
 use Rattle.field.specs.Domain.{Domain}
 use Rattle.transform.specs.Interpolation.{rows-positive}
@@ -25,20 +25,9 @@ use Rattle.protocol.specs.Protocol.{quotient}
 use Rattle.protocol.specs.Domains.{points-distinct, zeros}
 
 pub vanishing-same : (p n : ℕ) (t u : List ℕ) → SameP p t u → SameP p (timesVanishing p n t) (timesVanishing p n u)
-vanishing-same p n t u h k =
-    (cong (coefficient t) ⨾ cong-add (shifted (decLt k n)) (cong-on (pred p) (record { same = h k })) ⨾ cong (sym (coefficient u))) .same
-  where
-    coefficient : (f : List ℕ) → coef (timesVanishing p n f) k ≡ coef (shift n f) k + pred p * coef f k
-    coefficient f = coef-add (shift n f) (scaleP (pred p) f) k ∙ ap (λ (a : ℕ). coef (shift n f) k + a) (coef-scale (pred p) f k)
-
-    high : (f : List ℕ) (j : ℕ) → k ≡ j + n → coef (shift n f) k ≡ coef f j
-    high f j e = ap (coef (shift n f)) e ∙ coef-shift-high n f j
-
-    shifted : Dec (k < n) → Cong p (coef (shift n t) k) (coef (shift n u) k)
-    shifted (yes l) = cong (coef-shift-low n t k l ∙ sym (coef-shift-low n u k l))
-    shifted (no l) =
-        let e : k ≡ (k - n) + n = omega arith in
-        cong (high t (k - n) e) ⨾ record { same = h (k - n) } ⨾ cong (sym (high u (k - n) e))
+vanishing-same p n t u h =
+    same-add p (shift n t) (shift n u) (scaleP (pred p) t) (scaleP (pred p) u) (same-shift p n t u h)
+    (same-scale p (pred p) (pred p) t u (cong refl) h)
 
 module _ (q n : ℕ) (D : Domain (suc q) n) (f : List ℕ) (zero-at : (i : ℕ) → i < n → Cong (suc q) (eval f (point (suc q) n i)) 0) where
   abbrev p : ℕ

@@ -2,7 +2,7 @@
 --
 -- circuit, publics, witness       the sheet of document 01: prime 17, two rows, no public inputs; beta, gamma, alpha, zeta are 1, 1, 2, 2
 -- lastIs11, rowIs5-7-12           the witness with the last value 11, and with row 1 as 5, 7, 12
--- Value, Case                     a number, numbers or a verdict; what a case is about, what the definitions make of it, what document 01 says
+-- Value, Case                     a number, numbers, an answer or a verdict; what a case is about, what the definitions make of it, what document 01 says
 -- _&_                             proofs of the rows of a table, one after the other
 -- table                           the cases
 -- Worked                          the statement: every case is right, and where the contents disagree no z passes the row check
@@ -21,10 +21,12 @@ use borrow.Author.Tests.{eqb-true}
 use Rattle.algebra.specs.Lists.{tab, All}
 use Rattle.algebra.specs.Modular.{powF, first, inverse}
 use Rattle.algebra.specs.Polynomial.{eval, quotientVanishing, reduced}
+use Rattle.field.specs.declared.Answer.{Answer}
 use Rattle.field.specs.Fields.{generator, root, point, multiplier, tag}
+use Rattle.field.specs.Reasons.{answerOf}
 use Rattle.transform.specs.Transform.{interpolation}
 use Rattle.circuit.specs.Circuit.{Circuit, lentCircuit, lentWitness, lentPublic, permutation, gate}
-use Rattle.protocol.specs.Protocol.{rowN, rowD, rowZ, polyN, polyD, polyL, gatePart, stepPart, startPart, polyF, quotient, preparedPoly, prepared, wiresOf, zOf, tOf, proved, RowVerdict, pass, fails, startIdentity, stepIdentity, rowsFrom, rowVerdict, PointVerdict, accept, pointVerdict, brokenGate, brokenCopy, zeroFactor}
+use Rattle.protocol.specs.Protocol.{rowN, rowD, rowZ, polyN, polyD, polyL, gatePart, stepPart, startPart, polyF, quotient, preparedPoly, prepared, wiresOf, zOf, tOf, proved, RowVerdict, pass, fails, startIdentity, stepIdentity, rowsFrom, rowVerdict, PointVerdict, accept, pointVerdict, brokenGate, brokenCopy, zeroFactor, witnessReasons}
 
 -- THE SHEET
 
@@ -55,6 +57,7 @@ t = tOf 17 2 circuit publics witness 1 1 2
 pub data Value : Type 0 where
   number : ℕ → Value
   numbers : List ℕ → Value
+  answer : Answer → Value
   rows : RowVerdict → Value
   atPoint : PointVerdict → Value
 
@@ -78,15 +81,12 @@ table =
     ∷ record { what = "F(2)"; is = number (eval F 2 % 17); should = number 7 }
     ∷ record { what = "t(2)"; is = number (eval t 2 % 17); should = number 8 }
     ∷ record { what = "2^2 - 1"; is = number ((2 ^ 2 + pred 17) % 17); should = number 3 }
-    ∷ record { what = "last content 11: 9 at row"; is = number (brokenGate 17 2 circuit publics lastIs11); should = number 1 }
-    ∷ record { what = "row 1 as 5,7,12: 9 at no row"; is = number (brokenGate 17 2 circuit publics rowIs5-7-12); should = number 2 }
-    ∷ record { what = "row 1 as 5,7,12: 10 at position"; is = number (brokenCopy 2 circuit rowIs5-7-12); should = number 3 }
+    ∷ record { what = "the sheet as it is: accepted"; is = answer (answerOf (witnessReasons 17 2 circuit publics witness 1 1)); should = answer (record { number = 0; detail = 0 }) }
+    ∷ record { what = "last content 11: 9, detail 1"; is = answer (answerOf (witnessReasons 17 2 circuit publics lastIs11 1 1)); should = answer (record { number = 9; detail = 1 }) }
+    ∷ record { what = "row 1 as 5,7,12: 10, detail 3"; is = answer (answerOf (witnessReasons 17 2 circuit publics rowIs5-7-12 1 1)); should = answer (record { number = 10; detail = 3 }) }
     ∷ record { what = "row 1 as 5,7,12, beta 0, gamma 1: z = 1"; is = rows (rowVerdict 17 2 circuit publics rowIs5-7-12 (λ i. 1) 0 1); should = rows pass }
-    ∷ record { what = "9 at no row"; is = number (brokenGate 17 2 circuit publics witness); should = number 2 }
-    ∷ record { what = "10 at no position"; is = number (brokenCopy 2 circuit witness); should = number 6 }
-    ∷ record { what = "gamma 1: 11 at no row"; is = number (zeroFactor 17 2 circuit witness 1 1); should = number 2 }
-    ∷ record { what = "gamma 14: 11 at row"; is = number (zeroFactor 17 2 circuit witness 1 14); should = number 0 }
-    ∷ record { what = "gamma 2: 11 at row"; is = number (zeroFactor 17 2 circuit witness 1 2); should = number 1 }
+    ∷ record { what = "gamma 14: 11, detail 0"; is = answer (answerOf (witnessReasons 17 2 circuit publics witness 1 14)); should = answer (record { number = 11; detail = 0 }) }
+    ∷ record { what = "gamma 2: 11, detail 1"; is = answer (answerOf (witnessReasons 17 2 circuit publics witness 1 2)); should = answer (record { number = 11; detail = 1 }) }
     ∷ record { what = "a"; is = numbers (wiresOf 17 2 witness 0); should = numbers (4 ∷ 15 ∷ []) }
     ∷ record { what = "b"; is = numbers (wiresOf 17 2 witness 1); should = numbers (13 ∷ 7 ∷ []) }
     ∷ record { what = "c"; is = numbers (wiresOf 17 2 witness 2); should = numbers (9 ∷ 14 ∷ []) }
@@ -104,7 +104,7 @@ pub record Worked : Type 0 where
 
 right : All (λ r. r .is ≡ r .should) table
 unfolding tab powF first inverse quotientVanishing reduced generator root point multiplier tag interpolation permutation gate rowN rowD rowZ polyN polyD polyL gatePart stepPart startPart polyF quotient prepared rowsFrom pointVerdict brokenGate brokenCopy zeroFactor
-right = refl & refl & refl & refl & refl & refl & refl & refl & refl & refl & refl & refl & refl & refl & refl & refl & refl & refl & refl & refl & refl & refl & refl & tt
+right = refl & refl & refl & refl & refl & refl & refl & refl & refl & refl & refl & refl & refl & refl & refl & refl & refl & refl & refl & refl & tt
 
 -- N is 6, 15 and D is 15, 0: the two steps ask for z(1) × 15 to be 6, and to be 0
 abbrev byTests : Bool → Bool → Bool → RowVerdict

@@ -2,19 +2,17 @@
 --
 -- front-fits, spare-fits   a, b, c and z fit into the transcript, n words into the scratch
 -- filling-fits, prepared-fits, room-fits, laid-fits   6n words into the scratch; the prepared circuit and the domain points into their arrays; 4n words into the transcript
--- rest-put          the rest of a list behind its front, replaced
 -- rest-long         the words behind a, b, c and z are as many as t has
 -- laid-length       a, b, c and z are 4n numbers
 -- transcript-of     a, b, c and z with the quotient behind them are the prover's transcript
 --
 -- Assumes nothing.
-use mathlib.Core.Path.{_≡_, sym, ap, _∙_}
-use mathlib.Core.List.{List, _++_, append-nil}
+use mathlib.Core.Path.{_≡_, ap, _∙_}
+use mathlib.Core.List.{List, _++_}
 use Prim.Native.Nat.{ℕ, _*_, _-_, _≤_}
 use native.Mathlib.Omega.{arith}
 use lib.ListN.{length, getD, take, drop, length-take, length-drop, length-append}
-use lib.Seq.{take-at, drop-length}
-use borrow.Rule.Slice.PartMut.{putMid}
+use lib.Seq.{take-at}
 use Rattle.field.specs.Primes.{rows-power}
 use Rattle.circuit.specs.Circuit.{Circuit, lentCircuit, lentPublic, lentWitness}
 use Rattle.circuit.specs.Reasons.{quotientLength, transcriptLength}
@@ -48,11 +46,6 @@ module _ {p n : ℕ} {selectors labels publics challenges scratch : List ℕ} (R
       → length (take (length transcript - 4 * n) (drop (4 * n) transcript)) ≡ quotientLength n
   rest-long transcript e =
       simp (length-take, length-drop) (omega (arith, rows-power p n (R .admissible .rows) .least))
-
-pub rest-put : (h : ℕ) (l w : List ℕ) → h ≤ length l → putMid h (length l - h) l w ≡ take h l ++ w
-rest-put h l w fits =
-    let z : length l - h ≡ length (drop h l) = sym (length-drop h l) in
-    rw (z, drop-length (drop h l), append-nil w)
 
 pub laid-length : (p n : ℕ) (C : Circuit) (v : ℕ → ℕ) (beta gamma : ℕ) → length (laidRows p n C v beta gamma) ≡ 4 * n
 laid-length p n C v beta gamma = simp (length-append, interpolation-length) (omega arith)

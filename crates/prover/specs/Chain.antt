@@ -1,10 +1,10 @@
 -- The last sentence of demand 3 about the calls themselves: what `prove` lays, `check_rows` and `check_point` take.
 --
 -- THE STATEMENT
--- Taken     of an accepted `prove`: `check_rows`, lent the values of its z, answers Pass; `prepare`, then `check_point` at any zeta, answers Accept
+-- PassesChecks   of an accepted `prove`: `check_rows`, lent the values of its z, answers Pass; `prepare`, then `check_point` at any zeta, answers Accept
 -- THE THEOREM
--- taken-laid     Taken holds of the transcript of the definitions, where no reason of the prover applies
--- proved-taken   Taken holds of every accepted `prove`
+-- passes-laid     PassesChecks holds of the transcript of the definitions, where no reason of the prover applies
+-- proved-passes   PassesChecks holds of every accepted `prove`
 --
 -- A call's answer is any that keeps the call's promise: Proves, Prepares, ChecksRows, PointChecks.
 -- Assumes nothing.
@@ -45,7 +45,7 @@ use Rattle.prover.specs.Promises.{provedFrom, Proves}
 -- THE STATEMENT
 
 -- the buffers that `prove` was lent, and the transcript that it left
-pub record Taken (p n l : ℕ) (selectors labels witness publics challenges transcript' : List ℕ) : Type 0 where
+pub record PassesChecks (p n l : ℕ) (selectors labels witness publics challenges transcript' : List ℕ) : Type 0 where
   -- z is part 3 of the transcript
   pub rows-pass : (r : RowAnswer)
       → ChecksRows p n l selectors labels witness publics (evaluation p n (part n 3 transcript')) (getD challenges 0 0 ∷ getD challenges 1 0 ∷ []) r
@@ -102,8 +102,8 @@ module _ (p n l : ℕ) (selectors labels witness publics transcript challenges s
       (interpolation-length p n _))
       ∙ z-values p n (A .admissible) C (lentWitness witness) beta gamma
 
-  pub taken-laid : Taken p n l selectors labels witness publics challenges (provedFrom p n selectors labels witness publics challenges)
-  taken-laid =
+  pub passes-laid : PassesChecks p n l selectors labels witness publics challenges (provedFrom p n selectors labels witness publics challenges)
+  passes-laid =
       record {
         rows-pass = λ r checks.
             counted .honest-rows witness (A .witness-right) (A .satisfies) beta gamma (below 0 (omega arith)) (below 1 (omega arith)) (A .no-zero) r
@@ -125,12 +125,12 @@ module _ (p n l : ℕ) (selectors labels witness publics transcript challenges s
 
 -- THE THEOREM
 
-pub proved-taken : (p n l : ℕ) (selectors labels witness publics transcript challenges scratch : List ℕ) (r : Answer) (transcript' scratch' : List ℕ)
+pub proved-passes : (p n l : ℕ) (selectors labels witness publics transcript challenges scratch : List ℕ) (r : Answer) (transcript' scratch' : List ℕ)
     → Proves p n l selectors labels witness publics transcript challenges scratch r transcript' scratch' → isAccepted r ≡ true
-    → Taken p n l selectors labels witness publics challenges transcript'
-proved-taken p n l selectors labels witness publics transcript challenges scratch r transcript' scratch' P e =
+    → PassesChecks p n l selectors labels witness publics challenges transcript'
+proved-passes p n l selectors labels witness publics transcript challenges scratch r transcript' scratch' P e =
     let laid : transcript' ≡ provedFrom p n selectors labels witness publics challenges =
     P .lays ∙ ap (λ (b : Bool). cond b (provedFrom p n selectors labels witness publics challenges) transcript) e in
-    subst (Taken p n l selectors labels witness publics challenges) (sym laid)
-    (taken-laid p n l selectors labels witness publics transcript challenges scratch
+    subst (PassesChecks p n l selectors labels witness publics challenges) (sym laid)
+    (passes-laid p n l selectors labels witness publics transcript challenges scratch
     (accepted-of p n l selectors labels witness publics transcript challenges scratch (ap (λ (a : Answer). a .number) (sym (P .answer)) ∙ accepted-number r e)))

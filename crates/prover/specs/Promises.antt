@@ -13,8 +13,7 @@ use Rattle.field.specs.declared.Answer.{Answer}
 use Rattle.field.specs.Reasons.{answerOf, isAccepted}
 use Rattle.transform.specs.Transform.{scratchLength}
 use Rattle.circuit.specs.Circuit.{lentCircuit, lentPublic, lentWitness}
-use Rattle.protocol.specs.Protocol.{proved}
-use Rattle.witnesses.specs.Reasons.{proverReasons}
+use Rattle.protocol.specs.Protocol.{proved, proveReasons}
 
 abbrev pub provedFrom : (p n : ℕ) (selectors labels witness publics challenges : List ℕ) → List ℕ
 provedFrom p n selectors labels witness publics challenges =
@@ -22,6 +21,6 @@ provedFrom p n selectors labels witness publics challenges =
 
 -- selectors, labels, witness, public inputs and challenges are only read
 pub record Proves (p n l : ℕ) (selectors labels witness publics transcript challenges scratch : List ℕ) (r : Answer) (transcript' scratch' : List ℕ) : Type 0 where
-  pub answer : r ≡ answerOf (proverReasons p n l selectors labels witness publics transcript challenges scratch)
+  pub answer : r ≡ answerOf (proveReasons p n l selectors labels witness publics transcript challenges scratch)
   pub lays : transcript' ≡ cond (isAccepted r) (provedFrom p n selectors labels witness publics challenges) transcript
   pub cleared : scratch' ≡ cond (isAccepted r) (replicate (scratchLength n) 0) scratch

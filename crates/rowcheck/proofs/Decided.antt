@@ -17,24 +17,24 @@ use Rattle.field.specs.declared.Answer.{Answer}
 use Rattle.field.specs.Primes.{rows-power}
 use Rattle.field.specs.Reasons.{answerOf}
 use Rattle.field.specs.ReasonLaws.{none-applies, elements-of}
-use Rattle.circuit.specs.Reasons.{rowsReasons}
+use Rattle.circuit.specs.Reasons.{rowsReasons, rowsLengths}
 use Rattle.circuit.specs.Shape.{Shape}
 use Rattle.rowcheck.specs.Buffers.{Checked}
-use Rattle.rowcheck.specs.Deciding.{lengthReasons, Few}
+use Rattle.rowcheck.specs.Buffers.{Few}
 
 pub length-numbers : (n l selectors labels witness publics z challenges : ℕ)
-    → All (λ r. r .number ≢ 0) (lengthReasons n l selectors labels witness publics z challenges)
+    → All (λ r. r .number ≢ 0) (rowsLengths n l selectors labels witness publics z challenges)
 length-numbers n l selectors labels witness publics z challenges =
     (omega arith, (omega arith, (omega arith, (omega arith, (omega arith, (omega arith, tt))))))
 
 pub few : (p n l : ℕ) (selectors labels witness publics z challenges : List ℕ) (a : Answer) → Shape p n l
-    → a ≡ answerOf (lengthReasons n l (length selectors) (length labels) (length witness) (length publics) (length z) (length challenges))
+    → a ≡ answerOf (rowsLengths n l (length selectors) (length labels) (length witness) (length publics) (length z) (length challenges))
     → a .number ≡ 0 → Few n selectors labels witness publics z challenges
 few p n l selectors labels witness publics z challenges a shape e h =
     let small : n ≤ 1024 = rows-power p n (shape .admissible .rows) .small in
     let least : l ≤ n = shape .publics-few in
     let none =
-    none-applies (lengthReasons n l (length selectors) (length labels) (length witness) (length publics) (length z) (length challenges))
+    none-applies (rowsLengths n l (length selectors) (length labels) (length witness) (length publics) (length z) (length challenges))
     (length-numbers n l (length selectors) (length labels) (length witness) (length publics) (length z) (length challenges))
     (sym (ap (λ (b : Answer). b .number) e) ∙ h) in
     let a : length selectors ≡ 5 * n = eqb-true _ _ (not-false _ (none .0)) in

@@ -4,12 +4,13 @@
 -- Lent p n witness z own wired   there is a row, there are at most 1,024, and the lengths are right
 -- Tags p n labels own wired      the tags of the positions, and of those that the permutation of the labels leads to
 -- isPass v    the verdict is that every row holds
+-- Few         the buffers are short enough that a place in them is a number of the machine
 --
 -- Assumes nothing.
 use mathlib.Core.Path.{_≡_}
 use mathlib.Core.Bool.{Bool, true, false}
 use mathlib.Core.List.{List}
-use Prim.Native.Nat.{ℕ, _*_, _≤_, _<_}
+use Prim.Native.Nat.{ℕ, _+_, _*_, _≤_, _<_}
 use lib.ListN.{length, getD}
 use Rattle.algebra.specs.Lists.{tab}
 use Rattle.field.specs.Fields.{Admissible, tag}
@@ -44,3 +45,8 @@ abbrev pub isPass : Verdict → Bool
 isPass None = false
 isPass Pass = true
 isPass (Fails id i) = false
+
+pub record Few (n : ℕ) (selectors labels witness publics z challenges : List ℕ) : Type 0 where
+  pub rows : n ≤ 1024
+  pub elements : length selectors + length witness + length publics + length z + length challenges ≤ 65536
+  pub labels-few : length labels ≤ 65536

@@ -1,4 +1,4 @@
+-- Definitions, then theorems.
 pub mod Promises
 pub mod Buffers
 pub mod Rows
-pub mod Deciding

@@ -4,8 +4,8 @@ ghost use mathlib.Core.List.{_++_};
 ghost use Prim.Native.Nat.{_+_, _≤_};
 ghost use lib.ListN.{length};
 ghost use Rattle.field.specs.Reasons.{answerOf, firstAbove};
-ghost use Rattle.circuit.specs.Reasons.{rowsReasons};
-ghost use Rattle.rowcheck.specs.Deciding.{lengthReasons, contentReasons, Few};
+ghost use Rattle.circuit.specs.Reasons.{rowsReasons, rowsLengths, rowsNumbers};
+ghost use Rattle.rowcheck.specs.Buffers.{Few};
 use field::Answer;
 
 // The reasons of the buffers' lengths.
@@ -20,7 +20,7 @@ fn lengths(
     challenges: usize,
 ) -> Answer
     requires { ⌜ n ≤ 1024 ⌝ }
-    ensures { λ r. ⌜ r ≡ answerOf (lengthReasons n l selectors labels witness publics z challenges) ⌝ }
+    ensures { λ r. ⌜ r ≡ answerOf (rowsLengths n l selectors labels witness publics z challenges) ⌝ }
 {
     if selectors != 5 * n {
         return field::refused(6, 1);
@@ -61,7 +61,7 @@ fn elements(
 }
 
 // The reasons of the numbers and the labels in the buffers.
-fn contents(
+fn numbers(
     p: u32,
     n: u32,
     selectors: &[u32],
@@ -72,11 +72,11 @@ fn contents(
     challenges: &[u32],
 ) -> Answer
     requires { ⌜ Few n (now selectors) (now labels) (now witness) (now publics) (now z) (now challenges) ⌝ }
-    ensures { λ r. ⌜ r ≡ answerOf (contentReasons p n (now (selectors .entry)) (now (labels .entry)) (now (witness .entry)) (now (publics .entry)) (now (z .entry)) (now (challenges .entry))) ⌝ }
+    ensures { λ r. ⌜ r ≡ answerOf (rowsNumbers p n (now (selectors .entry)) (now (labels .entry)) (now (witness .entry)) (now (publics .entry)) (now (z .entry)) (now (challenges .entry))) ⌝ }
 {
     let at = elements(p, selectors, witness, publics, z, challenges);
     let long = selectors.len() + witness.len() + publics.len() + z.len() + challenges.len();
-    circuit::decide_contents(n, at, long, labels)
+    circuit::decide_numbers(n, at, long, labels)
 }
 
 // The reasons in order.
@@ -112,5 +112,5 @@ pub fn decide(
     if number != 0 {
         return second;
     }
-    contents(p, n, selectors, labels, witness, publics, z, challenges)
+    numbers(p, n, selectors, labels, witness, publics, z, challenges)
 }

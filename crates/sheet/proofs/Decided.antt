@@ -4,8 +4,8 @@
 -- three            the words of the first line
 -- lines-bad, lines-extra, lines-right   the reason of the lines behind it: one is out of form; one is extra; neither
 -- in-first, past-first     of all reasons: the first line's turn the sheet down; they do not
--- in-lines, in-lengths, in-contents   of the reasons behind the first line's: the same, part by part
--- table-reasons    the reasons of the contents, read off the table
+-- in-lines, in-lengths, in-numbers   of the reasons behind the first line's: the same, part by part
+-- table-reasons    the reasons of the elements, read off the table
 -- Shape, shaped    what the first line's reasons leave: there is a row, there are at most 256, and l is at most n
 -- begun            what reading the lines behind it asks
 -- same             the reasons behind the first line's, for the p, n and l that were read
@@ -15,7 +15,7 @@
 -- Assumes nothing.
 use mathlib.Core.Path.{_≡_, refl, sym, ap, _∙_, subst}
 use mathlib.Core.Logic.{_≢_}
-use mathlib.Core.Bool.{Bool, true, false, not, _||_}
+use mathlib.Core.Bool.{true, false, not, _||_}
 use mathlib.Core.List.{List, _++_}
 use Prim.Native.Nat.{ℕ, suc, _+_, _≤_, _<_}
 use native.Mathlib.Numerals.{add-one}
@@ -25,16 +25,17 @@ use lib.ListN.{length, getD, List·getD-append}
 use borrow.Author.Tests.{not-false, eqb-true, ltb-false, eq-eqb, ne-eqb, lt-ltb, le-ltb}
 use Rattle.algebra.specs.Lists.{All, tab}
 use Rattle.algebra.specs.Tables.{length-tab, getD-tab}
+use Rattle.algebra.specs.Search.{both-false}
 use Rattle.field.specs.declared.Answer.{Answer}
 use Rattle.field.specs.Fields.{isRows}
 use Rattle.field.specs.Primes.{rows-power}
 use Rattle.field.specs.Reasons.{Reason, answerOf}
-use Rattle.field.specs.ReasonLaws.{none-applies, answerOf-append}
+use Rattle.field.specs.ReasonLaws.{none-applies, refused-first, refused-later}
 use Rattle.text.specs.Text.{numberAt, fieldAt, isLineAt}
 use Rattle.sheet.specs.declared.SheetAnswer.{SheetAnswer}
-use Rattle.sheet.specs.Sheet.{sheetP, sheetN, sheetL, linesDue, lineAt, badLine, sheetReasons}
+use Rattle.sheet.specs.Sheet.{sheetP, sheetN, sheetL, linesDue, lineAt, badLine, sheetReasons, sheetShape, firstReasons, lineReasons, sheetLengths, sheetNumbers}
 use Rattle.sheet.specs.Table.{Held, Full, Begins, Room}
-use Rattle.sheet.specs.Deciding.{shapeReasons, firstReasons, lineReasons, lengthReasons, contentReasons, tableReasons, behindReasons, Opened, Decides}
+use Rattle.sheet.specs.Deciding.{tableNumbers, behindReasons, Opened, Decides}
 use Rattle.sheet.proofs.LineLaws.{second-start}
 use Rattle.sheet.proofs.TableLaws.{elements-same, labels-list-same}
 
@@ -47,7 +48,7 @@ module _ (s : List ℕ) where
   pub first-bad : length s ≤ 65536 → isLineAt s 0 3 ≡ false → record { number = 1; detail = 0 } ≡ answerOf (firstReasons s)
   first-bad h e = rw (le-ltb 65536 (length s) h, e)
 
-  pub first-read : length s ≤ 65536 → isLineAt s 0 3 ≡ true → answerOf (shapeReasons (sheetP s) (sheetN s) (sheetL s)) ≡ answerOf (firstReasons s)
+  pub first-read : length s ≤ 65536 → isLineAt s 0 3 ≡ true → answerOf (sheetShape (sheetP s) (sheetN s) (sheetL s)) ≡ answerOf (firstReasons s)
   first-read h e = rw (le-ltb 65536 (length s) h, e)
 
 pub three : (s es rest : List ℕ) (m : ℕ) → m ≡ 3 → es ≡ tab (λ j. numberAt s (fieldAt s 0 j)) m → (j : ℕ) → j < 3
@@ -74,12 +75,6 @@ module _ (s : List ℕ) (n l bad : ℕ) (is : bad ≡ badLine s n l) where
 
 -- THE PARTS END TO END
 
-stop : (rs ss : List Reason) → All (λ r. r .number ≢ 0) rs → (answerOf rs .number ≡ 0 → ⊥) → answerOf rs ≡ answerOf (rs ++ ss)
-stop rs ss n e = sym (answerOf-append rs ss n ∙ rw (ne-eqb _ _ e))
-
-go-on : (rs ss : List Reason) → All (λ r. r .number ≢ 0) rs → answerOf rs .number ≡ 0 → answerOf ss ≡ answerOf (rs ++ ss)
-go-on rs ss n e = sym (answerOf-append rs ss n ∙ rw (eq-eqb _ _ e))
-
 first-numbers : (s : List ℕ) → All (λ r. r .number ≢ 0) (firstReasons s)
 first-numbers s = (omega arith, (omega arith, (omega arith, (omega arith, tt))))
 
@@ -87,7 +82,7 @@ line-numbers : (s : List ℕ) (n l : ℕ) → All (λ r. r .number ≢ 0) (lineR
 line-numbers s n l = (omega arith, tt)
 
 length-numbers : (selectors labels witness publics challenges : ℕ)
-    → All (λ r. r .number ≢ 0) (lengthReasons selectors labels witness publics challenges)
+    → All (λ r. r .number ≢ 0) (sheetLengths selectors labels witness publics challenges)
 length-numbers selectors labels witness publics challenges =
     (omega arith, (omega arith, (omega arith, (omega arith, (omega arith, tt)))))
 
@@ -99,20 +94,20 @@ module _ (s : List ℕ) (selectors labels witness publics challenges : ℕ) wher
   whole = sheetReasons s selectors labels witness publics challenges
 
   pub in-first : (answerOf (firstReasons s) .number ≡ 0 → ⊥) → answerOf (firstReasons s) ≡ answerOf whole
-  in-first e = stop (firstReasons s) behind (first-numbers s) e
+  in-first e = refused-first (firstReasons s) behind (first-numbers s) _ refl e
 
   pub past-first : answerOf (firstReasons s) .number ≡ 0 → answerOf behind ≡ answerOf whole
-  past-first e = go-on (firstReasons s) behind (first-numbers s) e
+  past-first e = refused-later (firstReasons s) behind (first-numbers s) _ _ refl e refl
 
 module _ (s : List ℕ) (p n l selectors labels witness publics challenges : ℕ) where
   abbrev lines : List Reason
   lines = lineReasons s n l
 
   abbrev lengths : List Reason
-  lengths = lengthReasons selectors labels witness publics challenges
+  lengths = sheetLengths selectors labels witness publics challenges
 
-  abbrev contents : List Reason
-  contents = contentReasons s p n l
+  abbrev elements : List Reason
+  elements = sheetNumbers s p n l
 
   abbrev rest : List Reason
   rest = behindReasons s p n l selectors labels witness publics challenges
@@ -121,26 +116,22 @@ module _ (s : List ℕ) (p n l selectors labels witness publics challenges : ℕ
   numbers = length-numbers selectors labels witness publics challenges
 
   pub in-lines : (answerOf lines .number ≡ 0 → ⊥) → answerOf lines ≡ answerOf rest
-  in-lines e = stop lines (lengths ++ contents) (line-numbers s n l) e
+  in-lines e = refused-first lines (lengths ++ elements) (line-numbers s n l) _ refl e
 
-  past-lines : answerOf lines .number ≡ 0 → answerOf (lengths ++ contents) ≡ answerOf rest
-  past-lines e = go-on lines (lengths ++ contents) (line-numbers s n l) e
+  past-lines : answerOf lines .number ≡ 0 → answerOf (lengths ++ elements) ≡ answerOf rest
+  past-lines e = refused-later lines (lengths ++ elements) (line-numbers s n l) _ _ refl e refl
 
   pub in-lengths : answerOf lines .number ≡ 0 → (answerOf lengths .number ≡ 0 → ⊥) → answerOf lengths ≡ answerOf rest
-  in-lengths e f = stop lengths contents numbers f ∙ past-lines e
+  in-lengths e f = refused-first lengths elements numbers _ refl f ∙ past-lines e
 
-  pub in-contents : answerOf lines .number ≡ 0 → answerOf lengths .number ≡ 0 → answerOf contents ≡ answerOf rest
-  in-contents e f = go-on lengths contents numbers f ∙ past-lines e
+  pub in-numbers : answerOf lines .number ≡ 0 → answerOf lengths .number ≡ 0 → answerOf elements ≡ answerOf rest
+  in-numbers e f = refused-later lengths elements numbers _ _ refl f refl ∙ past-lines e
 
 pub table-reasons : (s : List ℕ) (p n l : ℕ) (t : List ℕ) → Full n l t → Held s n l (linesDue n l) t
-    → answerOf (tableReasons p n l t) ≡ answerOf (contentReasons s p n l)
+    → answerOf (tableNumbers p n l t) ≡ answerOf (sheetNumbers s p n l)
 table-reasons s p n l t full held = rw (elements-same s n l t full held, labels-list-same s n l t full held)
 
 -- WHAT IS KNOWN
-
-or-false : (a b : Bool) → (a || b) ≡ false → (a ≡ false) × (b ≡ false)
-or-false false b e = (refl, e)
-or-false true b e = absurd (let z : _≡_ {A = ℕ} 0 1 = cc in omega arith)
 
 pub record Shape (n l : ℕ) : Type 0 where
   pub some : 0 < n
@@ -149,7 +140,7 @@ pub record Shape (n l : ℕ) : Type 0 where
 
 shape-of : (p n l : ℕ) → (not (isRows p n) || ltb 256 n) ≡ false → ltb n l ≡ false → Shape n l
 shape-of p n l e f =
-    let rows = or-false _ _ e in
+    let rows = both-false _ _ e in
     record {
       some = omega (arith, rows-power p n (not-false _ (rows .0)) .least);
       few = ltb-false _ _ (rows .1);

@@ -1,3 +1,4 @@
+-- Laws that the functions' proofs cite.
 pub mod BlockLaws
 pub mod LineLaws
 pub mod TableLaws

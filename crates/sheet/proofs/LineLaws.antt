@@ -1,7 +1,7 @@
 -- The lines of a sheet: how many numbers they have, the search for the first one out of form, and the table that is filled line by line.
 --
 -- due-circuit, due-witness, due-publics, due-challenges   how many numbers a line has, by where it stands
--- due-some, due-most   at least one number, at most 8
+-- due-most   a line has at most 8 numbers
 -- isBad s n l i        line i is missing or out of form
 -- bad-begins           the search for such a line, from line 1 on
 -- bad-le               what it finds is at most the number of lines
@@ -54,14 +54,6 @@ module _ (n l i : ℕ) where
 either : (P : ℕ → Type 0) (b : Bool) {x y : ℕ} → P x → P y → P (cond b x y)
 either P true p q = p
 either P false p q = q
-
-pub due-some : (n l i : ℕ) → 0 < fieldsDue n l i
-unfolding fieldsDue
-due-some n l i =
-    either (λ m. 0 < m) (eqb i 0) (omega arith)
-    (either (λ m. 0 < m) (leb i n) (omega arith)
-    (either (λ m. 0 < m) (leb i (n + n)) (omega arith)
-    (either (λ m. 0 < m) (leb i (n + n + l)) (omega arith) (omega arith))))
 
 pub due-most : (n l i : ℕ) → fieldsDue n l i ≤ 8
 unfolding fieldsDue

@@ -12,7 +12,7 @@
 --
 -- Assumes nothing.
 use mathlib.Core.Path.{_≡_, refl, sym, ap, ap₂, subst, _∙_}
-use mathlib.Core.Bool.{Bool, true, false, not}
+use mathlib.Core.Bool.{Bool, true, false, not, true≢false}
 use mathlib.Core.List.{List, _++_, append-assoc, append-nil}
 use Prim.Native.Nat.{ℕ, zero, suc, _+_, _-_, _≤_, _<_}
 use native.Mathlib.Decide.{decLt}
@@ -43,9 +43,6 @@ laid-same f g (suc m) h = ap₂ (λ (a b : List ℕ). a ++ b) (laid-same f g m (
 pub laid-one : (f : ℕ → List ℕ) → laid f 1 ≡ f 0
 unfolding laid
 laid-one f = refl
-
-clash : true ≡ false → ⊥
-clash u = let z : _≡_ {A = ℕ} 0 1 = cc in omega arith
 
 module _ (n l : ℕ) (line : ℕ → List ℕ) (small : (i : ℕ) → Small (line i)) (long : (i : ℕ) → length (line i) ≡ fieldsDue n l i)
     (some : (i : ℕ) → 0 < fieldsDue n l i) where
@@ -100,7 +97,7 @@ module _ (n l : ℕ) (line : ℕ → List ℕ) (small : (i : ℕ) → Small (lin
 
       go : Dec (first test 1 (n + n + l + 1) < linesDue n l) → first test 1 (n + n + l + 1) ≡ linesDue n l
       go (yes h) =
-          absurd (clash (sym (found .hit (omega arith)) ∙ ap not (in-form (linesDue n l) (first test 1 (n + n + l + 1)) h)))
+          absurd (true≢false (sym (found .hit (omega arith)) ∙ ap not (in-form (linesDue n l) (first test 1 (n + n + l + 1)) h)))
       go (no h) = omega (arith, found .high)
 
   pub no-extra : isExtra (bytes (linesDue n l)) n l ≡ false

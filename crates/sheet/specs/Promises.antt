@@ -9,8 +9,9 @@ use mathlib.Core.List.{List}
 use Prim.Native.Nat.{ℕ, _*_}
 use lib.ListN.{length}
 use Rattle.field.specs.Reasons.{answerOf, isAccepted}
+use Rattle.circuit.specs.Reasons.{selectorsLength, labelsLength, witnessLength}
 use Rattle.sheet.specs.declared.SheetAnswer.{SheetAnswer}
-use Rattle.sheet.specs.Sheet.{sheetP, sheetN, sheetL, onSelectors, onLabels, onWitness, onPublics, onChallenges, padded, sheetReasons}
+use Rattle.sheet.specs.Sheet.{sheetRows, sheetP, sheetN, sheetL, onSelectors, onLabels, onWitness, onPublics, onChallenges, padded, sheetReasons}
 
 -- refused: p, n and l are 0, and every buffer is as it came; accepted: the numbers of the sheet as they are lent for its n, zeros behind
 pub record Reads (s selectors labels witness publics challenges : List ℕ) (r : SheetAnswer) (selectors' labels' witness' publics' challenges' : List ℕ)
@@ -20,8 +21,8 @@ pub record Reads (s selectors labels witness publics challenges : List ℕ) (r :
   pub n-is : r .n ≡ cond (isAccepted (r .answer)) (sheetN s) 0
   pub l-is : r .l ≡ cond (isAccepted (r .answer)) (sheetL s) 0
   pub selectors-laid :
-      selectors' ≡ cond (isAccepted (r .answer)) (padded 1280 (onSelectors s (sheetN s) (sheetL s)) (5 * sheetN s)) selectors
-  pub labels-laid : labels' ≡ cond (isAccepted (r .answer)) (padded 768 (onLabels s (sheetN s) (sheetL s)) (3 * sheetN s)) labels
-  pub witness-laid : witness' ≡ cond (isAccepted (r .answer)) (padded 768 (onWitness s (sheetN s) (sheetL s)) (3 * sheetN s)) witness
-  pub publics-laid : publics' ≡ cond (isAccepted (r .answer)) (padded 256 (onPublics s (sheetN s) (sheetL s)) (sheetL s)) publics
+      selectors' ≡ cond (isAccepted (r .answer)) (padded (selectorsLength sheetRows) (onSelectors s (sheetN s) (sheetL s)) (5 * sheetN s)) selectors
+  pub labels-laid : labels' ≡ cond (isAccepted (r .answer)) (padded (labelsLength sheetRows) (onLabels s (sheetN s) (sheetL s)) (3 * sheetN s)) labels
+  pub witness-laid : witness' ≡ cond (isAccepted (r .answer)) (padded (witnessLength sheetRows) (onWitness s (sheetN s) (sheetL s)) (3 * sheetN s)) witness
+  pub publics-laid : publics' ≡ cond (isAccepted (r .answer)) (padded sheetRows (onPublics s (sheetN s) (sheetL s)) (sheetL s)) publics
   pub challenges-laid : challenges' ≡ cond (isAccepted (r .answer)) (padded 4 (onChallenges s (sheetN s) (sheetL s)) 4) challenges

@@ -4,6 +4,7 @@
 -- SheetBack            what is read off the text s
 -- sheet-back           THE THEOREM, for the text of the numbers
 -- sheetLine            the numbers of line i of that text
+-- some-due             every line has a number
 -- Admitted             what the reasons ask of the numbers: p and n are admissible on a sheet, l is at most n, elements are below p, labels below 3n
 -- sheet-taken          a sheet that reads so, of at most 65,536 bytes, is accepted, where the lent buffers have the lengths that 256 rows need
 --
@@ -21,11 +22,10 @@ use borrow.Author.Tests.{ne-eqb, le-leb, lt-leb, le-ltb}
 use Rattle.algebra.specs.Lists.{tab, All}
 use Rattle.algebra.specs.Tables.{length-tab, getD-tab, tab-ext, tab-getD, all-append, all-tab}
 use Rattle.field.specs.Fields.{isField, isRows}
-use Rattle.field.specs.Reasons.{answerOf}
 use Rattle.field.specs.ReasonLaws.{elements-none}
 use Rattle.transform.specs.Parts.{laid}
 use Rattle.text.specs.Text.{isLineAt, lineOf}
-use Rattle.sheet.specs.Sheet.{fieldsDue, linesDue, lineAt, numberOf, sheetP, sheetN, sheetL, badLine, isExtra, onSelectors, onLabels, onWitness, onPublics, onChallenges, sheetElements, sheetReasons}
+use Rattle.sheet.specs.Sheet.{fieldsDue, linesDue, lineAt, numberOf, sheetP, sheetN, sheetL, badLine, isExtra, onSelectors, onLabels, onWitness, onPublics, onChallenges, sheetElements, readAnswer}
 use Rattle.sheet.specs.Written.{column, circuitLine, witnessLine, publicLine, sheetText, Small, Right}
 use Rattle.sheet.specs.LaidLines.{laid-split, laid-same, laid-one, in-form, reads, no-bad, no-extra}
 
@@ -57,7 +57,7 @@ length-pick : (b : Bool) (x y : List ℕ) (k m : ℕ) → length x ≡ k → len
 length-pick true x y k m p q = p
 length-pick false x y k m p q = q
 
-some-due : (n l i : ℕ) → 0 < fieldsDue n l i
+pub some-due : (n l i : ℕ) → 0 < fieldsDue n l i
 unfolding fieldsDue
 some-due n l i =
     either (eqb i 0) (omega arith)
@@ -260,7 +260,7 @@ module _ (s : List ℕ) (p n l : ℕ) (selectors labels witness publics challeng
   lent-labels-below : All (λ (x : ℕ). x < 3 * n) (tab (onLabels s n l) (3 * n))
   lent-labels-below = rw (back .labels-are) (taken .labels-below)
 
-  pub sheet-taken : answerOf (sheetReasons s 1280 768 768 256 4) ≡ record { number = 0; detail = 0 }
+  pub sheet-taken : readAnswer s ≡ record { number = 0; detail = 0 }
   sheet-taken =
       rw (back .p-is, back .n-is, back .l-is)
       (rw (

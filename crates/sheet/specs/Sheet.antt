@@ -1,5 +1,6 @@
 -- The sheet (document 01, "The sheet"): which bytes are one, and the numbers that stand on it. Lines count from 0 here.
 --
+-- sheetRows            the greatest number of rows on a sheet; the lent buffers have the lengths that so many rows need
 -- LINES
 -- fieldsDue n l i      how many numbers line i has: 3 on the first, then n lines of 8, n of 3, l of 1, and one of 4
 -- linesDue n l         how many lines there are
@@ -14,7 +15,11 @@
 -- REASONS
 -- tooLong s            the sheet has more than 65,536 bytes
 -- sheetElements s n l  the elements in the order of 7
--- sheetReasons         of `read`, for the lengths of the five lent buffers
+-- sheetShape, firstReasons   of p, n and l on a sheet; of the first line
+-- lineReasons          of the lines behind it
+-- sheetLengths, sheetNumbers   of the five lent buffers' lengths; of the elements and labels, as they are lent
+-- sheetReasons         of `read`, for the lengths of the five lent buffers: all of these
+-- readAnswer s         the answer of reading the sheet into buffers of the right lengths
 --
 -- Assumes nothing.
 use mathlib.Core.Bool.{Bool, not, cond, _||_}
@@ -24,10 +29,14 @@ use lib.Dec.{eqb, leb, ltb}
 use lib.ListN.{length, replicate}
 use Rattle.algebra.specs.Lists.{tab}
 use Rattle.algebra.specs.Modular.{first}
+use Rattle.field.specs.declared.Answer.{Answer}
 use Rattle.field.specs.Fields.{isRows}
-use Rattle.field.specs.Reasons.{Reason, badField, badLength, badElement}
-use Rattle.circuit.specs.Reasons.{badPublics, badLabel}
+use Rattle.field.specs.Reasons.{Reason, answerOf, badField, badLength, badElement}
+use Rattle.circuit.specs.Reasons.{selectorsLength, labelsLength, witnessLength, badPublics, badLabel}
 use Rattle.text.specs.Text.{numberAt, fieldAt, isLineAt}
+
+abbrev pub sheetRows : ℕ
+sheetRows = 256
 
 -- LINES
 
@@ -92,21 +101,40 @@ abbrev pub sheetElements : List ℕ → ℕ → ℕ → List ℕ
 sheetElements s n l =
     tab (onSelectors s n l) (5 * n) ++ (tab (onWitness s n l) (3 * n) ++ (tab (onPublics s n l) l ++ tab (onChallenges s n l) 4))
 
+-- of p, n and l, and of the first line, on which they stand
+abbrev pub sheetShape : ℕ → ℕ → ℕ → List Reason
+sheetShape p n l =
+    badField p ∷ record { number = 3; detail = 0; applies = not (isRows p n) || ltb sheetRows n } ∷ badPublics l n ∷ []
+
+abbrev pub firstReasons : List ℕ → List Reason
+firstReasons s =
+    record { number = 1; detail = 0; applies = tooLong s || not (isLineAt s 0 3) } ∷ sheetShape (sheetP s) (sheetN s) (sheetL s)
+
+-- of the lines behind it, of the five buffers' lengths, of the numbers
+abbrev pub lineReasons : List ℕ → ℕ → ℕ → List Reason
+lineReasons s n l =
+    record { number = 5; detail = suc (badLine s n l); applies = ltb (badLine s n l) (linesDue n l) || isExtra s n l } ∷ []
+
+abbrev pub sheetLengths : (selectors labels witness publics challenges : ℕ) → List Reason
+sheetLengths selectors labels witness publics challenges =
+    badLength 2 selectors (selectorsLength sheetRows)
+    ∷ badLength 3 labels (labelsLength sheetRows)
+    ∷ badLength 4 witness (witnessLength sheetRows)
+    ∷ badLength 5 publics sheetRows
+    ∷ badLength 6 challenges 4
+    ∷ []
+
+abbrev pub sheetNumbers : List ℕ → ℕ → ℕ → ℕ → List Reason
+sheetNumbers s p n l = badElement p (sheetElements s n l) ∷ badLabel n (tab (onLabels s n l) (3 * n)) ∷ []
+
 abbrev pub sheetReasons : (s : List ℕ) (selectors labels witness publics challenges : ℕ) → List Reason
 sheetReasons s selectors labels witness publics challenges =
-    let p : ℕ = sheetP s in
     let n : ℕ = sheetN s in
     let l : ℕ = sheetL s in
-    record { number = 1; detail = 0; applies = tooLong s || not (isLineAt s 0 3) }
-    ∷ badField p
-    ∷ record { number = 3; detail = 0; applies = not (isRows p n) || ltb 256 n }
-    ∷ badPublics l n
-    ∷ record { number = 5; detail = suc (badLine s n l); applies = ltb (badLine s n l) (linesDue n l) || isExtra s n l }
-    ∷ badLength 2 selectors 1280
-    ∷ badLength 3 labels 768
-    ∷ badLength 4 witness 768
-    ∷ badLength 5 publics 256
-    ∷ badLength 6 challenges 4
-    ∷ badElement p (sheetElements s n l)
-    ∷ badLabel n (tab (onLabels s n l) (3 * n))
-    ∷ []
+    firstReasons s
+    ++ (lineReasons s n l ++ (sheetLengths selectors labels witness publics challenges ++ sheetNumbers s (sheetP s) n l))
+
+-- what a sheet is answered, where the lent buffers have the lengths that 256 rows need
+abbrev pub readAnswer : List ℕ → Answer
+readAnswer s =
+    answerOf (sheetReasons s (selectorsLength sheetRows) (labelsLength sheetRows) (witnessLength sheetRows) sheetRows 4)

@@ -2,7 +2,6 @@
 --
 -- bytes        the sheet
 -- without i, with i more   the sheet with byte i left out, and with more bytes before byte i
--- answered s   number and detail of the answer to the sheet s
 -- Worked, worked   what is read off the sheet, and the answers to it and to sheets near it; that they are so
 --
 -- Assumes nothing.
@@ -13,12 +12,11 @@ use lib.Count.{ones}
 use lib.ListN.{take, drop}
 use Rattle.algebra.specs.Lists.{tab}
 use Rattle.algebra.specs.Modular.{first}
-use Rattle.field.specs.declared.Answer.{Answer}
 use Rattle.field.specs.Fields.{isField, isRows, greatestRows}
 use Rattle.field.specs.Reasons.{answerOf, firstAbove}
 use Rattle.transform.specs.Parts.{laid}
 use Rattle.text.specs.Text.{isDigit, digitsEnd, valueOf, isNumberAt, numberAt, fieldAt, isFieldAt, isLineAt, decimalOf, fieldsOf}
-use Rattle.sheet.specs.Sheet.{fieldsDue, lineAt, numberOf, sheetP, sheetN, sheetL, badLine, onSelectors, onLabels, onWitness, onPublics, onChallenges, sheetReasons}
+use Rattle.sheet.specs.Sheet.{fieldsDue, lineAt, numberOf, sheetP, sheetN, sheetL, badLine, onSelectors, onLabels, onWitness, onPublics, onChallenges, sheetReasons, readAnswer}
 use Rattle.sheet.specs.Written.{sheetText}
 
 -- 17,2,0 and the five lines behind it, each with byte 10 at its end
@@ -39,10 +37,6 @@ without i = take i bytes ++ drop (suc i) bytes
 abbrev pub with : ℕ → List ℕ → List ℕ
 with i more = take i bytes ++ (more ++ drop i bytes)
 
--- what a sheet is answered, where the lent buffers have the lengths that 256 rows need
-abbrev pub answered : List ℕ → Answer
-answered s = answerOf (sheetReasons s 1280 768 768 256 4)
-
 pub record Worked : Type 0 where
   pub p-is : sheetP bytes ≡ 17
   pub n-is : sheetN bytes ≡ 2
@@ -52,24 +46,24 @@ pub record Worked : Type 0 where
   pub witness : tab (onWitness bytes 2 0) 6 ≡ 2 ∷ 6 ∷ 3 ∷ 6 ∷ 6 ∷ 12 ∷ []
   pub publics : tab (onPublics bytes 2 0) 0 ≡ []
   pub challenges : tab (onChallenges bytes 2 0) 4 ≡ 1 ∷ 1 ∷ 2 ∷ 2 ∷ []
-  pub accepted : answered bytes ≡ record { number = 0; detail = 0 }
+  pub accepted : readAnswer bytes ≡ record { number = 0; detail = 0 }
   pub written :
       sheetText 17 2 0 (0 ∷ 1 ∷ 0 ∷ 1 ∷ 16 ∷ 16 ∷ 1 ∷ 0 ∷ 0 ∷ 0 ∷ []) (0 ∷ 2 ∷ 1 ∷ 2 ∷ 2 ∷ 3 ∷ []) (2 ∷ 6 ∷ 3 ∷ 6 ∷ 6 ∷ 12 ∷ []) [] (1 ∷ 1 ∷ 2 ∷ 2 ∷ [])
       ≡ bytes
   -- the first line without its byte 10, and with a zero before 17
-  pub first-open : answered (without 6) ≡ record { number = 1; detail = 0 }
-  pub first-zero : answered (with 0 (48 ∷ [])) ≡ record { number = 1; detail = 0 }
+  pub first-open : readAnswer (without 6) ≡ record { number = 1; detail = 0 }
+  pub first-zero : readAnswer (with 0 (48 ∷ [])) ≡ record { number = 1; detail = 0 }
   -- 187 for 17; 3 rows; 3 public inputs
-  pub no-prime : answered (with 1 (56 ∷ [])) ≡ record { number = 2; detail = 0 }
-  pub no-power : answered (49 ∷ 55 ∷ 44 ∷ 51 ∷ 44 ∷ 48 ∷ 10 ∷ []) ≡ record { number = 3; detail = 0 }
-  pub many : answered (49 ∷ 55 ∷ 44 ∷ 50 ∷ 44 ∷ 51 ∷ 10 ∷ []) ≡ record { number = 4; detail = 0 }
+  pub no-prime : readAnswer (with 1 (56 ∷ [])) ≡ record { number = 2; detail = 0 }
+  pub no-power : readAnswer (49 ∷ 55 ∷ 44 ∷ 51 ∷ 44 ∷ 48 ∷ 10 ∷ []) ≡ record { number = 3; detail = 0 }
+  pub many : readAnswer (49 ∷ 55 ∷ 44 ∷ 50 ∷ 44 ∷ 51 ∷ 10 ∷ []) ≡ record { number = 4; detail = 0 }
   -- the last line without its byte 10; a byte behind it; a zero before the first number of line 2
-  pub last-open : answered (without 61) ≡ record { number = 5; detail = 6 }
-  pub extra : answered (with 62 (49 ∷ [])) ≡ record { number = 5; detail = 7 }
-  pub zero-ahead : answered (with 7 (48 ∷ [])) ≡ record { number = 5; detail = 2 }
+  pub last-open : readAnswer (without 61) ≡ record { number = 5; detail = 6 }
+  pub extra : readAnswer (with 62 (49 ∷ [])) ≡ record { number = 5; detail = 7 }
+  pub zero-ahead : readAnswer (with 7 (48 ∷ [])) ≡ record { number = 5; detail = 2 }
   -- 1 before the last content, 12: it is 112, and place 15 of the elements; 1 before the last label, 3: it is 13, and position 5
-  pub high : answered (with 51 (49 ∷ [])) ≡ record { number = 7; detail = 15 }
-  pub high-label : answered (with 39 (49 ∷ [])) ≡ record { number = 8; detail = 5 }
+  pub high : readAnswer (with 51 (49 ∷ [])) ≡ record { number = 7; detail = 15 }
+  pub high-label : readAnswer (with 39 (49 ∷ [])) ≡ record { number = 8; detail = 5 }
   -- the witness has room for 767 numbers
   pub short : answerOf (sheetReasons bytes 1280 768 767 256 4) ≡ record { number = 6; detail = 4 }
 

@@ -1,7 +1,8 @@
 // The first line of a sheet: p, n and l, and the reasons that speak of them.
 ghost use mathlib.Core.Path.{_≡_};
 ghost use lib.ListN.{length};
-ghost use Rattle.sheet.specs.Deciding.{shapeReasons, firstReasons, Opened};
+ghost use Rattle.sheet.specs.Sheet.{sheetShape, firstReasons};
+ghost use Rattle.sheet.specs.Deciding.{Opened};
 ghost use Rattle.field.specs.Reasons.{answerOf};
 use field::Answer;
 
@@ -16,7 +17,7 @@ pub struct First {
 
 // The reasons of p, n and l on a sheet.
 fn shape(p: u32, n: u32, l: u32) -> Answer
-    ensures { λ r. ⌜ r ≡ answerOf (shapeReasons p n l) ⌝ }
+    ensures { λ r. ⌜ r ≡ answerOf (sheetShape p n l) ⌝ }
 {
     if !field::is_field(p) {
         return field::refused(2, 0);

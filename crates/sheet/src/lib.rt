@@ -6,10 +6,10 @@ ghost use lib.ListN.{length};
 ghost use Rattle.sheet.specs.Promises.{Reads};
 use field::Answer;
 
-mod contents;
 mod first;
 mod laying;
 mod lines;
+mod numbers;
 mod reasons;
 
 // The answer of `read`: p, n and l are 0 if refused.

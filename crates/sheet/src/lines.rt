@@ -1,9 +1,8 @@
 // The lines behind the first one, read into a table of 8 words a line.
 ghost use mathlib.Core.Path.{_≡_};
 ghost use Prim.Native.Nat.{_≤_};
-ghost use Rattle.sheet.specs.Sheet.{fieldsDue, linesDue, lineAt, badLine};
+ghost use Rattle.sheet.specs.Sheet.{fieldsDue, linesDue, lineAt, badLine, lineReasons};
 ghost use Rattle.sheet.specs.Table.{Held, Begins};
-ghost use Rattle.sheet.specs.Deciding.{lineReasons};
 ghost use Rattle.field.specs.Reasons.{answerOf};
 use field::Answer;
 

@@ -2,9 +2,9 @@
 ghost use mathlib.Core.Path.{_≡_};
 ghost use lib.ListN.{length};
 ghost use Rattle.field.specs.Reasons.{answerOf};
-ghost use Rattle.sheet.specs.Sheet.{linesDue};
+ghost use Rattle.sheet.specs.Sheet.{linesDue, sheetLengths};
 ghost use Rattle.sheet.specs.Table.{Held, Begins};
-ghost use Rattle.sheet.specs.Deciding.{lengthReasons, behindReasons, Decides};
+ghost use Rattle.sheet.specs.Deciding.{behindReasons, Decides};
 use super::SheetAnswer;
 use field::Answer;
 
@@ -16,7 +16,7 @@ fn lengths(
     publics: usize,
     challenges: usize,
 ) -> Answer
-    ensures { λ r. ⌜ r ≡ answerOf (lengthReasons selectors labels witness publics challenges) ⌝ }
+    ensures { λ r. ⌜ r ≡ answerOf (sheetLengths selectors labels witness publics challenges) ⌝ }
 {
     if selectors != 1280 {
         return field::refused(6, 2);
@@ -64,7 +64,7 @@ fn decide_behind(
     if number != 0 {
         return second;
     }
-    super::contents::decide_contents(p, n, l, table)
+    super::numbers::decide_numbers(p, n, l, table)
 }
 
 // A refusal: p, n and l are 0.

@@ -1,6 +1,5 @@
 -- Laws of reading: a run of digits and its value capped at 2^32, against the definitions.
 --
--- clash             false is not true
 -- stands-past, stands-inside   a byte that is not 0 stands nowhere past the text's end: where it stands, the text goes on
 -- end-low, end-high a run of digits ends no earlier than it starts, and within the text
 -- in-form-is        the tests of a number, on the capped value, are those of the definition
@@ -9,7 +8,7 @@
 --
 -- Assumes nothing.
 use mathlib.Core.Path.{_≡_, sym, ap, _∙_}
-use mathlib.Core.Bool.{Bool, true, false, not, _&&_, _||_}
+use mathlib.Core.Bool.{Bool, true, false, not, _&&_, _||_, false≢true}
 use mathlib.Core.List.{List}
 use Prim.Native.Nat.{ℕ, _-_, _≤_, _<_, min}
 use native.Mathlib.Decide.{decLt}
@@ -20,12 +19,9 @@ use borrow.Author.Tests.{ltb-true, lt-ltb, le-ltb, ne-eqb}
 use Rattle.algebra.specs.Search.{First, first-is}
 use Rattle.text.specs.Text.{isDigit, digitsEnd, valueOf, isNumberAt, numberAt}
 
-pub clash : false ≡ true → ⊥
-clash u = let z : _≡_ {A = ℕ} 0 1 = cc in omega arith
-
 second : (a b : Bool) → (a && b) ≡ true → b ≡ true
 second true b e = e
-second false b e = absurd (clash e)
+second false b e = absurd (false≢true e)
 
 pub stands-past : (s : List ℕ) (k b : ℕ) → 0 < b → length s ≤ k → eqb (getD s k 0) b ≡ false
 stands-past s k b h l = ne-eqb (getD s k 0) b (λ e. omega (arith, List·getD-eq-default s 0 l))
@@ -35,7 +31,7 @@ stands-inside s k b h e = go (decLt k (length s))
   where
     go : Dec (k < length s) → k < length s
     go (yes l) = l
-    go (no l) = absurd (clash (sym (stands-past s k b h (omega arith)) ∙ e))
+    go (no l) = absurd (false≢true (sym (stands-past s k b h (omega arith)) ∙ e))
 
 module _ (s : List ℕ) (at : ℕ) where
   run : First (λ k. not (isDigit (getD s k 0))) at (length s - at) (digitsEnd s at)

@@ -10,7 +10,7 @@
 --
 -- Assumes nothing.
 use mathlib.Core.Path.{_≡_, refl, sym, ap, ap₂, subst, subst⁻¹, _∙_}
-use mathlib.Core.Bool.{Bool, true, false, not, cond, _&&_, _||_}
+use mathlib.Core.Bool.{Bool, true, false, not, cond, _&&_, _||_, false≢true}
 use mathlib.Core.List.{List, [], _∷_, _++_, append-assoc}
 use Prim.Native.Nat.{ℕ, zero, suc, _+_, _-_, _≤_, _<_}
 use native.Mathlib.Decide.{decLt, ℕ-discrete}
@@ -24,9 +24,6 @@ use Rattle.algebra.specs.Tables.{all-getD}
 use Rattle.algebra.specs.Search.{First, first-is, first-some, first-none}
 use Rattle.text.specs.Text.{isDigit, digitsEnd, valueOf, isNumberAt, numberAt, fieldAt, closing, isFieldAt, isLineAt, decimal, fieldsOf, lineOf}
 use Rattle.text.specs.Decimal.{Written, written-in, written-front, written-back, decimal-small, decimal-digits, decimal-some, decimal-lead, decimal-value, value-written}
-
-clash : false ≡ true → ⊥
-clash u = let z : _≡_ {A = ℕ} 0 1 = cc in omega arith
 
 -- A NUMBER
 
@@ -47,7 +44,7 @@ run-ends s at r h l digits stop = go (decLt (first test at (length s - at)) r)
 
     go : Dec (first test at (length s - at) < r) → first test at (length s - at) ≡ r
     go (yes k) =
-        absurd (clash (sym (ap not (digits (first test at (length s - at)) (found .low) k)) ∙ found .hit (omega arith)))
+        absurd (false≢true (sym (ap not (digits (first test at (length s - at)) (found .low) k)) ∙ found .hit (omega arith)))
     go (no k) = omega (arith, upper)
 
 module _ (s : List ℕ) (at v b : ℕ) (rest : List ℕ) (small : v < 4294967296) (other : isDigit b ≡ false) (w : Written s at (decimal v ++ (b ∷ rest)))
@@ -220,7 +217,7 @@ module _ (before vs after : List ℕ) (some : 0 < length vs) (small : All (λ v.
   line-is =
       eq-eqb _ _
       (first-none (λ j. not (isFieldAt (before ++ (lineOf vs ++ after)) (length before) (length vs) j)) (length vs)
-      (λ j h e. clash (sym (ap not (back .fields j h)) ∙ e)))
+      (λ j h e. false≢true (sym (ap not (back .fields j h)) ∙ e)))
 
   pub line-ends : fieldAt (before ++ (lineOf vs ++ after)) (length before) (length vs) ≡ length before + length (lineOf vs)
   line-ends = back .ends

@@ -24,13 +24,13 @@ use Rattle.field.specs.Fields.{Admissible}
 use Rattle.field.specs.Primes.{field-prime}
 use Rattle.field.specs.Reasons.{answerOf, isAccepted}
 use Rattle.field.specs.declared.Answer.{Answer}
-use Rattle.transform.specs.Transform.{evaluation, scratchLength}
+use Rattle.transform.specs.Transform.{valueAt, evaluation, scratchLength}
 use Rattle.circuit.specs.Circuit.{Circuit, position, gate, Satisfies, lentCircuit, lentPublic, lentWitness}
 use Rattle.circuit.specs.Reasons.{witnessLength, quotientLength, rowsReasons}
 use Rattle.circuit.specs.RightlyLent.{RightCircuit, RightPublics, rows-taken, point-taken}
 use Rattle.protocol.specs.Protocol.{RowVerdict, pass, fails, rowVerdict, rowN, rowD, rowZ, PointVerdict, accept, reject, prepared, transcript, proved, zeroFactor}
 use Rattle.protocol.specs.Rows.{RowHolds, passed-row, rows-pass, rowZ-lt}
-use Rattle.protocol.specs.Demand3.{valueAt, witnessOf, PassingPair, HoldingAlpha, AcceptedZeta, demand-3}
+use Rattle.protocol.specs.Demand3.{witnessOf, PassingPair, HoldingAlpha, AcceptedZeta, demand-3}
 use Rattle.rowcheck.specs.declared.RowAnswer.{RowAnswer}
 use Rattle.rowcheck.specs.declared.Verdict.the-variants.{None, Pass}
 use Rattle.rowcheck.specs.Promises.{verdictOf, lentZ, ChecksRows}

@@ -19,22 +19,22 @@ use Rattle.field.specs.declared.Answer.{Answer}
 use Rattle.field.specs.Primes.{rows-power}
 use Rattle.field.specs.Reasons.{Reason, answerOf}
 use Rattle.field.specs.ReasonLaws.{none-applies, elements-of}
-use Rattle.circuit.specs.Reasons.{proveReasons}
+use Rattle.circuit.specs.Reasons.{proveBufferReasons, proveLengths}
 use Rattle.circuit.specs.Shape.{Shape}
-use Rattle.witnesses.specs.Deciding.{lengthReasons, Few, Checked}
+use Rattle.witnesses.specs.Buffers.{Few, Checked}
 
 pub length-numbers : (n l selectors labels witness publics transcript challenges scratch : ℕ)
-    → All (λ r. r .number ≢ 0) (lengthReasons n l selectors labels witness publics transcript challenges scratch)
+    → All (λ r. r .number ≢ 0) (proveLengths n l selectors labels witness publics transcript challenges scratch)
 length-numbers n l selectors labels witness publics transcript challenges scratch =
     (omega arith, (omega arith, (omega arith, (omega arith, (omega arith, (omega arith, (omega arith, tt)))))))
 
 module _ (p n l : ℕ) (selectors labels witness publics transcript challenges scratch : List ℕ) where
   abbrev lengths : List Reason
   lengths =
-      lengthReasons n l (length selectors) (length labels) (length witness) (length publics) (length transcript) (length challenges) (length scratch)
+      proveLengths n l (length selectors) (length labels) (length witness) (length publics) (length transcript) (length challenges) (length scratch)
 
   abbrev whole : List Reason
-  whole = proveReasons p n l selectors labels witness publics transcript challenges scratch
+  whole = proveBufferReasons p n l selectors labels witness publics transcript challenges scratch
 
   pub few : (a : Answer) → Shape p n l → a ≡ answerOf lengths → a .number ≡ 0 → Few n selectors labels witness publics challenges
   few a shape e h =

@@ -2,12 +2,12 @@
 --
 -- Accepted      p and n are admissible, every buffer is lent rightly, the witness satisfies the circuit, and no factor of any D(i) is 0
 -- accepted-of   an answer with number 0 means that all of it holds
--- prove-taken   where all of it holds, no reason applies: buffers that are lent rightly, with contents that satisfy the circuit, are never turned down
+-- prove-taken   where all of it holds, no reason applies: buffers that are lent rightly, with a witness that satisfies the circuit and no zero factor, are never turned down
 -- brokenGate-le, brokenCopy-le, zeroFactor-le   the row or position is at most their number
 --
 -- Assumes nothing.
 use mathlib.Core.Path.{_≡_}
-use mathlib.Core.Bool.{Bool, false, not}
+use mathlib.Core.Bool.{false, not}
 use mathlib.Core.List.{List, _++_}
 use Prim.Native.Nat.{ℕ, _*_, _≤_, _<_}
 use native.Mathlib.Omega.{arith}
@@ -15,9 +15,8 @@ use lib.Dec.{ltb}
 use lib.ListN.{length, getD}
 use borrow.Author.Tests.{not-false, eqb-true, ltb-false, le-ltb}
 use Rattle.algebra.specs.Lists.{All}
-use Rattle.algebra.specs.Modular.{first}
 use Rattle.algebra.specs.Polynomial.{Elements}
-use Rattle.algebra.specs.Search.{first-is}
+use Rattle.algebra.specs.Search.{first-le}
 use Rattle.algebra.specs.Tables.{all-append, all-left, all-right}
 use Rattle.field.specs.Fields.{isField, isRows, Admissible}
 use Rattle.field.specs.Reasons.{answerOf}
@@ -26,9 +25,8 @@ use Rattle.transform.specs.Transform.{scratchLength}
 use Rattle.circuit.specs.Circuit.{Circuit, lentCircuit, lentPublic, lentWitness, Satisfies}
 use Rattle.circuit.specs.Reasons.{witnessLength, transcriptLength}
 use Rattle.circuit.specs.RightlyLent.{RightCircuit, RightPublics}
-use Rattle.protocol.specs.Protocol.{brokenGate, brokenCopy, zeroFactor}
+use Rattle.protocol.specs.Protocol.{brokenGate, brokenCopy, zeroFactor, proveReasons}
 use Rattle.protocol.specs.Conditions.{satisfied, unbroken}
-use Rattle.witnesses.specs.Reasons.{proverReasons}
 
 pub record Accepted (p n l : ℕ) (selectors labels witness publics transcript challenges scratch : List ℕ) : Type 0 where
   pub admissible : Admissible p n
@@ -40,9 +38,6 @@ pub record Accepted (p n l : ℕ) (selectors labels witness publics transcript c
   pub scratch-long : length scratch ≡ scratchLength n
   pub satisfies : Satisfies p n (lentCircuit n selectors labels) (lentPublic publics) (lentWitness witness)
   pub no-zero : zeroFactor p n (lentCircuit n selectors labels) (lentWitness witness) (getD challenges 0 0) (getD challenges 1 0) ≡ n
-
-first-le : (test : ℕ → Bool) (m : ℕ) → first test 0 m ≤ m
-first-le test m = omega (arith, first-is test 0 m .high)
 
 at-end : {a m : ℕ} → a ≤ m → ltb a m ≡ false → a ≡ m
 at-end {a} {m} h e = omega (arith, ltb-false a m e)
@@ -60,7 +55,7 @@ unfolding zeroFactor
 zeroFactor-le p n C v beta gamma = first-le _ n
 
 pub accepted-of : (p n l : ℕ) (selectors labels witness publics transcript challenges scratch : List ℕ)
-    → answerOf (proverReasons p n l selectors labels witness publics transcript challenges scratch) .number ≡ 0
+    → answerOf (proveReasons p n l selectors labels witness publics transcript challenges scratch) .number ≡ 0
     → Accepted p n l selectors labels witness publics transcript challenges scratch
 accepted-of p n l selectors labels witness publics transcript challenges scratch e =
     let C = lentCircuit n selectors labels in
@@ -70,7 +65,7 @@ accepted-of p n l selectors labels witness publics transcript challenges scratch
     let gamma = getD challenges 1 0 in
     let P : ℕ → Type 0 = λ a. a < p in
     let none =
-    none-applies (proverReasons p n l selectors labels witness publics transcript challenges scratch)
+    none-applies (proveReasons p n l selectors labels witness publics transcript challenges scratch)
     (omega arith, (omega arith, (omega arith, (omega arith, (omega arith, (omega arith, (omega arith, (omega arith, (omega arith, (omega arith, (omega arith, (omega arith, (omega arith, (omega arith, (omega arith, tt)))))))))))))))
     e in
     let lengths = none .1 .1 .1 in
@@ -102,7 +97,7 @@ accepted-of p n l selectors labels witness publics transcript challenges scratch
 
 pub prove-taken : {p n l : ℕ} {selectors labels witness publics transcript challenges scratch : List ℕ}
     → Accepted p n l selectors labels witness publics transcript challenges scratch
-    → answerOf (proverReasons p n l selectors labels witness publics transcript challenges scratch) ≡ record { number = 0; detail = 0 }
+    → answerOf (proveReasons p n l selectors labels witness publics transcript challenges scratch) ≡ record { number = 0; detail = 0 }
 prove-taken {p} {n} {l} {selectors} {labels} {witness} {publics} {transcript} {challenges} {scratch} A =
     let C = lentCircuit n selectors labels in
     let v = lentWitness witness in
@@ -117,5 +112,5 @@ prove-taken {p} {n} {l} {selectors} {labels} {witness} {publics} {transcript} {c
     let gates = le-ltb (brokenGate p n C (lentPublic publics) v) n (omega (arith, whole .0)) in
     let copies = le-ltb (brokenCopy n C v) (3 * n) (omega (arith, whole .1)) in
     let factors = le-ltb (zeroFactor p n C v (getD challenges 0 0) (getD challenges 1 0)) n (omega (arith, A .no-zero)) in
-    taken (proverReasons p n l selectors labels witness publics transcript challenges scratch)
+    taken (proveReasons p n l selectors labels witness publics transcript challenges scratch)
     (prime, (rows, (le-ltb n l (A .publics-right .few), (length-none (A .circuit-right .selectors-right .long), (length-none (A .circuit-right .labels-right .long), (length-none (A .witness-right .long), (length-none (X .long), (length-none (A .transcript-long), (length-none (A .challenges-right .long), (length-none (A .scratch-long), (elements-none p _ all, (elements-none (3 * n) labels (A .circuit-right .labels-right .below), (gates, (copies, (factors, tt)))))))))))))))

@@ -1,4 +1,4 @@
-pub mod Reasons
+-- Definitions, then theorems.
 pub mod Accepted
 pub mod Scans
-pub mod Deciding
+pub mod Buffers

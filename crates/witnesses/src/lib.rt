@@ -5,8 +5,8 @@ ghost use mathlib.Core.Path.{_≡_};
 ghost use lib.ListN.{getD};
 ghost use Rattle.field.specs.Reasons.{answerOf};
 ghost use Rattle.circuit.specs.Circuit.{lentCircuit, lentPublic, lentWitness};
-ghost use Rattle.witnesses.specs.Reasons.{witnessReasons, proverReasons};
-ghost use Rattle.witnesses.specs.Deciding.{Checked};
+ghost use Rattle.protocol.specs.Protocol.{witnessReasons, proveReasons};
+ghost use Rattle.witnesses.specs.Buffers.{Checked};
 use field::Answer;
 
 mod reasons;
@@ -54,7 +54,7 @@ pub fn decide(
     challenges: &[u32],
     scratch: &[u32],
 ) -> Answer
-    ensures { λ r. ⌜ r ≡ answerOf (proverReasons p n l (now (selectors .entry)) (now (labels .entry)) (now (witness .entry)) (now (publics .entry)) (now (transcript .entry)) (now (challenges .entry)) (now (scratch .entry))) ⌝ }
+    ensures { λ r. ⌜ r ≡ answerOf (proveReasons p n l (now (selectors .entry)) (now (labels .entry)) (now (witness .entry)) (now (publics .entry)) (now (transcript .entry)) (now (challenges .entry)) (now (scratch .entry))) ⌝ }
 {
     let answer = reasons::of_buffers(
         p,

@@ -2,8 +2,8 @@
 ghost use mathlib.Core.Path.{_≡_};
 ghost use Prim.Native.Nat.{_≤_};
 ghost use Rattle.field.specs.Reasons.{answerOf};
-ghost use Rattle.circuit.specs.Reasons.{proveReasons};
-ghost use Rattle.witnesses.specs.Deciding.{lengthReasons, contentReasons, Few};
+ghost use Rattle.circuit.specs.Reasons.{proveBufferReasons, proveLengths, proveNumbers};
+ghost use Rattle.witnesses.specs.Buffers.{Few};
 use field::Answer;
 
 // The reasons of the buffers' lengths.
@@ -19,7 +19,7 @@ fn lengths(
     scratch: usize,
 ) -> Answer
     requires { ⌜ (1 ≤ n) × (n ≤ 1024) ⌝ }
-    ensures { λ r. ⌜ r ≡ answerOf (lengthReasons n l selectors labels witness publics transcript challenges scratch) ⌝ }
+    ensures { λ r. ⌜ r ≡ answerOf (proveLengths n l selectors labels witness publics transcript challenges scratch) ⌝ }
 {
     if selectors != 5 * n {
         return field::refused(6, 1);
@@ -46,7 +46,7 @@ fn lengths(
 }
 
 // The reasons of the numbers and the labels in the buffers.
-fn contents(
+fn numbers(
     p: u32,
     n: u32,
     selectors: &[u32],
@@ -56,11 +56,11 @@ fn contents(
     challenges: &[u32],
 ) -> Answer
     requires { ⌜ Few n (now selectors) (now labels) (now witness) (now publics) (now challenges) ⌝ }
-    ensures { λ r. ⌜ r ≡ answerOf (contentReasons p n (now (selectors .entry)) (now (labels .entry)) (now (witness .entry)) (now (publics .entry)) (now (challenges .entry))) ⌝ }
+    ensures { λ r. ⌜ r ≡ answerOf (proveNumbers p n (now (selectors .entry)) (now (labels .entry)) (now (witness .entry)) (now (publics .entry)) (now (challenges .entry))) ⌝ }
 {
     let at = field::first_of_four(p, selectors, witness, publics, challenges);
     let long = selectors.len() + witness.len() + publics.len() + challenges.len();
-    circuit::decide_contents(n, at, long, labels)
+    circuit::decide_numbers(n, at, long, labels)
 }
 
 // The reasons in order. The transcript and the scratch are looked at for their length only.
@@ -76,7 +76,7 @@ pub fn of_buffers(
     challenges: &[u32],
     scratch: &[u32],
 ) -> Answer
-    ensures { λ r. ⌜ r ≡ answerOf (proveReasons p n l (now (selectors .entry)) (now (labels .entry)) (now (witness .entry)) (now (publics .entry)) (now (transcript .entry)) (now (challenges .entry)) (now (scratch .entry))) ⌝ }
+    ensures { λ r. ⌜ r ≡ answerOf (proveBufferReasons p n l (now (selectors .entry)) (now (labels .entry)) (now (witness .entry)) (now (publics .entry)) (now (transcript .entry)) (now (challenges .entry)) (now (scratch .entry))) ⌝ }
 {
     let first = circuit::decide_shape(p, n, l);
     let number = first.number;
@@ -98,5 +98,5 @@ pub fn of_buffers(
     if number != 0 {
         return second;
     }
-    contents(p, n, selectors, labels, witness, publics, challenges)
+    numbers(p, n, selectors, labels, witness, publics, challenges)
 }

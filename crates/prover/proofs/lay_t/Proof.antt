@@ -6,11 +6,12 @@ use native.Mathlib.Omega.{arith}
 use lib.ListN.{length, getD, take}
 use lib.Seq.{length-take-le}
 use borrow.Author.Needs.{needs}
+use Rattle.algebra.specs.Ends.{rest-put}
 use Rattle.field.specs.Primes.{rows-power, field-prime}
 use Rattle.circuit.specs.Circuit.{lentCircuit, lentPublic}
 use Rattle.protocol.specs.Protocol.{prepared}
 use Rattle.quotients.specs.Lengths.{length-pointF}
-use Rattle.prover.proofs.Fits.{filling-fits, laid-fits, rest-long, rest-put}
+use Rattle.prover.proofs.Fits.{filling-fits, laid-fits, rest-long}
 use Rattle.prover.proofs.lay_t.Statement.{statement}
 use Rattle.prover.proofs.lay_t.Tie as tie
 
@@ -72,7 +73,7 @@ returns c =
     let T = a .transcript .now in
     let d = a .challenges .now in
     let t = c .before .before .divide in
-    rest-put (4 * a .n) T (t .last .1 .1 .1 .0) (laid-fits (s .pre .0) T (s .pre .1))
+    rest-put (4 * a .n) T (t .last .1 .1 .1 .0)
     ∙ ap (λ (l : List ℕ). take (4 * a .n) T ++ l)
     (t .ensures _
     (length-pointF (a .p) (a .n) (prepared (a .p) (a .n) (lentCircuit (a .n) (a .selectors .now) (a .labels .now))) (lentPublic (a .publics .now)) (take (4 * a .n) T)

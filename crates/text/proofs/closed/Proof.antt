@@ -1,13 +1,13 @@
 -- `text::closed` meets its contract: both tests, and a closing byte stands within the text. Assumes nothing.
 use mathlib.Core.Path.{sym, ap, _∙_}
-use mathlib.Core.Bool.{Bool, true, _&&_}
+use mathlib.Core.Bool.{Bool, true, _&&_, false≢true}
 use Prim.Native.Nat.{ℕ}
 use lib.Dec.{eqb}
 use lib.ListN.{getD}
 use borrow.Author.Tests.{not-true, not-false}
 use borrow.Author.Needs.{needs}
 use Rattle.text.specs.Text.{digitsEnd}
-use Rattle.text.proofs.Reading.{stands-inside, clash}
+use Rattle.text.proofs.Reading.{stands-inside}
 use Rattle.text.proofs.closed.Statement.{statement}
 use Rattle.text.proofs.closed.Tie as tie
 
@@ -22,7 +22,7 @@ returns c =
       bad ∙ sym (ap (λ (t : Bool). t && eqb (getD (a .s .now) (digitsEnd (a .s .now) (a .at)) 0) (a .close)) (sym (n .0) ∙ bad)),
       (
         n .1 .0,
-        λ e. absurd (clash (sym bad ∙ e)),
+        λ e. absurd (false≢true (sym bad ∙ e)),
       ),
     )
 

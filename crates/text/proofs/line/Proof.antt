@@ -1,4 +1,5 @@
 -- `text::line` meets its contract. The loop's invariant: j fields are read. The measure is what is left of the fields. Assumes nothing.
+use mathlib.Core.Bool.{false≢true}
 use mathlib.Core.Path.{_≡_, ap, _∙_}
 use Prim.Native.Nat.{_-_}
 use native.Mathlib.Omega.{arith}
@@ -7,7 +8,6 @@ use borrow.Author.Tests.{not-true, not-false}
 use borrow.Author.Needs.{needs}
 use Rattle.algebra.specs.Tables.{wrote-all}
 use Rattle.text.specs.Text.{fieldAt}
-use Rattle.text.proofs.Reading.{clash}
 use Rattle.text.proofs.Lines.{Reading, fieldNumber, read-none, read-more, line-stop, line-end}
 use Rattle.text.proofs.line.Statement.{statement}
 use Rattle.text.proofs.line.Tie as tie
@@ -35,7 +35,7 @@ returns c =
     let l = c .before .before .before .before .before .loop in
     let bad = not-true _ (c .if1 .taken) in (
       line-stop _ _ _ _ _ _ (l .inv) _ _ (c .before .before .before .close-of .ensures .0) (c .before .before .closed .ensures .0) (omega arith) bad,
-      λ e. absurd (clash e),
+      λ e. absurd (false≢true e),
     )
 
 mul-out : tie.Need-mul-out Inv-loop μ-loop

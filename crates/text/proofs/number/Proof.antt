@@ -1,9 +1,10 @@
 -- `text::number` meets its contract: the end, the value and the tests are those of the definition. Assumes nothing.
+use mathlib.Core.Bool.{false≢true}
 use mathlib.Core.Path.{refl, sym, _∙_}
 use Prim.Native.Nat.{_-_}
 use native.Mathlib.Omega.{arith}
 use borrow.Author.Needs.{needs}
-use Rattle.text.proofs.Reading.{clash, end-low, end-high, in-form-is, in-form-small, in-form-value}
+use Rattle.text.proofs.Reading.{end-low, end-high, in-form-is, in-form-small, in-form-value}
 use Rattle.text.proofs.number.Statement.{statement}
 use Rattle.text.proofs.number.Tie as tie
 
@@ -43,7 +44,7 @@ returns-2 c =
     let end = c .before .before .before .digits-end .ensures in
     let capped = c .before .before .value .ensures in (
       sym (c .if1 .left) ∙ in-form-is (a .s .now) (a .at) _ _ _ _ end refl capped (c .before .in-form .ensures),
-      (end, λ e. absurd (clash e)),
+      (end, λ e. absurd (false≢true e)),
     )
 
 pub number-spec : {M : Type 1} → statement M

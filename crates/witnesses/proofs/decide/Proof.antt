@@ -7,15 +7,15 @@ use Rattle.algebra.specs.Lists.{All}
 use Rattle.field.specs.Reasons.{Reason}
 use Rattle.field.specs.ReasonLaws.{refused-first, refused-later}
 use Rattle.circuit.specs.Circuit.{lentCircuit, lentPublic, lentWitness}
-use Rattle.circuit.specs.Reasons.{proveReasons}
-use Rattle.witnesses.specs.Reasons.{witnessReasons}
+use Rattle.circuit.specs.Reasons.{proveBufferReasons}
+use Rattle.protocol.specs.Protocol.{witnessReasons}
 use Rattle.witnesses.proofs.Decided.{buffer-numbers, checked}
 use Rattle.witnesses.proofs.decide.Statement.{statement}
 use Rattle.witnesses.proofs.decide.Tie as tie
 
 -- the two parts
 abbrev first : tie.Start → List Reason
-first s = proveReasons (s .args .p) (s .args .n) (s .args .l) (s .args .selectors .now) (s .args .labels .now) (s .args .witness .now) (s .args .publics .now) (s .args .transcript .now) (s .args .challenges .now) (s .args .scratch .now)
+first s = proveBufferReasons (s .args .p) (s .args .n) (s .args .l) (s .args .selectors .now) (s .args .labels .now) (s .args .witness .now) (s .args .publics .now) (s .args .transcript .now) (s .args .challenges .now) (s .args .scratch .now)
 
 abbrev second : tie.Start → List Reason
 second s =

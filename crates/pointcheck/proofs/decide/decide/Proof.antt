@@ -2,14 +2,14 @@
 use mathlib.Core.Logic.{_≢_}
 use mathlib.Core.List.{List, _++_}
 use native.Mathlib.Omega.{arith}
+use lib.ListN.{length}
 use borrow.Author.Needs.{needs}
 use Rattle.algebra.specs.Lists.{All}
 use Rattle.field.specs.Primes.{rows-power}
 use Rattle.field.specs.Reasons.{Reason}
 use Rattle.field.specs.ReasonLaws.{refused-first, refused-later}
-use Rattle.circuit.specs.Reasons.{shapeReasons}
+use Rattle.circuit.specs.Reasons.{shapeReasons, pointLengths, pointNumbers}
 use Rattle.circuit.specs.Shape.{Shape, shaped, shape-numbers}
-use Rattle.pointcheck.specs.Deciding.{lengthReasons, contentReasons}
 use Rattle.pointcheck.proofs.Deciding.{length-numbers, lengths-known}
 use Rattle.pointcheck.proofs.decide.decide.Statement.{statement}
 use Rattle.pointcheck.proofs.decide.decide.Tie as tie
@@ -19,10 +19,10 @@ abbrev first : tie.Start → List Reason
 first s = shapeReasons (s .args .p) (s .args .n) (s .args .l)
 
 abbrev second : tie.Start → List Reason
-second s = lengthReasons (s .args .n) (s .args .l) (s .args .publics .now) (s .args .prepared .now) (s .args .transcript .now) (s .args .challenges .now) (s .args .scratch .now)
+second s = pointLengths (s .args .n) (s .args .l) (length (s .args .publics .now)) (length (s .args .prepared .now)) (length (s .args .transcript .now)) (length (s .args .challenges .now)) (length (s .args .scratch .now))
 
 abbrev third : tie.Start → List Reason
-third s = contentReasons (s .args .p) (s .args .publics .now) (s .args .prepared .now) (s .args .transcript .now) (s .args .challenges .now)
+third s = pointNumbers (s .args .p) (s .args .publics .now) (s .args .prepared .now) (s .args .transcript .now) (s .args .challenges .now)
 
 -- none of their reasons has number 0
 first-right : (s : tie.Start) → All (λ r. r .number ≢ 0) (first s)
@@ -56,8 +56,8 @@ returns-2 c =
     refused-later (first s) (second s ++ third s) (first-right s) _ _ (d .before .decide-shape .ensures) (d .if1 .left)
     (refused-first (second s) (third s) (second-right s) _ (c .before .lengths .ensures) (c .if2 .taken))
 
-contents-requires : tie.Need-contents-requires
-contents-requires c κs =
+numbers-requires : tie.Need-numbers-requires
+numbers-requires c κs =
     let s = start (c .before .before) in
     let shape = shape-known (c .before .before) in
     let k = lengths-known (s .args .n) (s .args .l) (s .args .publics .now) (s .args .prepared .now) (s .args .transcript .now) (s .args .challenges .now) (s .args .scratch .now) _ (c .before .lengths .ensures) (c .if2 .left) in
@@ -68,9 +68,9 @@ returns-3 c =
     let d = c .before .before .before in
     let s = start d in
     refused-later (first s) (second s ++ third s) (first-right s) _ _ (d .before .decide-shape .ensures) (d .if1 .left)
-    (refused-later (second s) (third s) (second-right s) _ _ (c .before .before .lengths .ensures) (c .before .if2 .left) (c .contents .ensures))
+    (refused-later (second s) (third s) (second-right s) _ _ (c .before .before .lengths .ensures) (c .before .if2 .left) (c .numbers .ensures))
 
 pub decide-spec : {M : Type 1} → statement M
 decide-spec =
     tie.close
-    (tie.spec decide-shape-requires returns lengths-requires returns-2 contents-requires returns-3)
+    (tie.spec decide-shape-requires returns lengths-requires returns-2 numbers-requires returns-3)

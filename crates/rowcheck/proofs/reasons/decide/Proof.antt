@@ -7,9 +7,8 @@ use Rattle.algebra.specs.Lists.{All}
 use Rattle.field.specs.Primes.{rows-power}
 use Rattle.field.specs.Reasons.{Reason}
 use Rattle.field.specs.ReasonLaws.{refused-first, refused-later}
-use Rattle.circuit.specs.Reasons.{shapeReasons}
+use Rattle.circuit.specs.Reasons.{shapeReasons, rowsLengths, rowsNumbers}
 use Rattle.circuit.specs.Shape.{Shape, shaped, shape-numbers}
-use Rattle.rowcheck.specs.Deciding.{lengthReasons, contentReasons}
 use Rattle.rowcheck.proofs.Decided.{length-numbers, few}
 use Rattle.rowcheck.proofs.reasons.decide.Statement.{statement}
 use Rattle.rowcheck.proofs.reasons.decide.Tie as tie
@@ -19,10 +18,10 @@ abbrev first : tie.Start → List Reason
 first s = shapeReasons (s .args .p) (s .args .n) (s .args .l)
 
 abbrev second : tie.Start → List Reason
-second s = lengthReasons (s .args .n) (s .args .l) (length (s .args .selectors .now)) (length (s .args .labels .now)) (length (s .args .witness .now)) (length (s .args .publics .now)) (length (s .args .z .now)) (length (s .args .challenges .now))
+second s = rowsLengths (s .args .n) (s .args .l) (length (s .args .selectors .now)) (length (s .args .labels .now)) (length (s .args .witness .now)) (length (s .args .publics .now)) (length (s .args .z .now)) (length (s .args .challenges .now))
 
 abbrev third : tie.Start → List Reason
-third s = contentReasons (s .args .p) (s .args .n) (s .args .selectors .now) (s .args .labels .now) (s .args .witness .now) (s .args .publics .now) (s .args .z .now) (s .args .challenges .now)
+third s = rowsNumbers (s .args .p) (s .args .n) (s .args .selectors .now) (s .args .labels .now) (s .args .witness .now) (s .args .publics .now) (s .args .z .now) (s .args .challenges .now)
 
 -- none of their reasons has number 0
 first-right : (s : tie.Start) → All (λ r. r .number ≢ 0) (first s)
@@ -56,8 +55,8 @@ returns-2 c =
     refused-later (first s) (second s ++ third s) (first-right s) _ _ (d .before .decide-shape .ensures) (d .if1 .left)
     (refused-first (second s) (third s) (second-right s) _ (c .before .lengths .ensures) (c .if2 .taken))
 
-contents-requires : tie.Need-contents-requires
-contents-requires c κs =
+numbers-requires : tie.Need-numbers-requires
+numbers-requires c κs =
     let s = start (c .before .before) in
     few (s .args .p) (s .args .n) (s .args .l) (s .args .selectors .now) (s .args .labels .now) (s .args .witness .now) (s .args .publics .now) (s .args .z .now) (s .args .challenges .now) _ (shape-known (c .before .before)) (c .before .lengths .ensures) (c .if2 .left)
 
@@ -66,9 +65,9 @@ returns-3 c =
     let d = c .before .before .before in
     let s = start d in
     refused-later (first s) (second s ++ third s) (first-right s) _ _ (d .before .decide-shape .ensures) (d .if1 .left)
-    (refused-later (second s) (third s) (second-right s) _ _ (c .before .before .lengths .ensures) (c .before .if2 .left) (c .contents .ensures))
+    (refused-later (second s) (third s) (second-right s) _ _ (c .before .before .lengths .ensures) (c .before .if2 .left) (c .numbers .ensures))
 
 pub decide-spec : {M : Type 1} → statement M
 decide-spec =
     tie.close
-    (tie.spec decide-shape-requires returns lengths-requires returns-2 contents-requires returns-3)
+    (tie.spec decide-shape-requires returns lengths-requires returns-2 numbers-requires returns-3)

@@ -12,7 +12,8 @@ use Rattle.algebra.specs.Modular.{first}
 use Rattle.algebra.specs.Search.{first-stop, first-skip, first-end}
 use Rattle.sheet.specs.Sheet.{lineAt, linesDue, badLine}
 use Rattle.sheet.specs.Table.{Held}
-use Rattle.sheet.proofs.LineLaws.{due-some, due-most, isBad, bad-begins, line-is, held-none, held-more, next-start, part-long}
+use Rattle.sheet.specs.ReadBack.{some-due}
+use Rattle.sheet.proofs.LineLaws.{due-most, isBad, bad-begins, line-is, held-none, held-more, next-start, part-long}
 use Rattle.sheet.proofs.lines.read_lines.Statement.{statement}
 use Rattle.sheet.proofs.lines.read_lines.Tie as tie
 
@@ -70,7 +71,7 @@ line-requires c κs =
     let long = part-long (8 * loop .i) (c .before .fields-due .result) (loop .table) (fits (c .before)) in (
       c .before .before .before .loop .inv .3,
       s .pre .short,
-      omega (arith, long, c .before .fields-due .ensures, due-some (s .args .n) (s .args .l) (c .before .before .before .loop .i)),
+      omega (arith, long, c .before .fields-due .ensures, some-due (s .args .n) (s .args .l) (c .before .before .before .loop .i)),
       omega (arith, long, few (c .before)),
     )
 

@@ -2,7 +2,7 @@
 use mathlib.Core.Path.{sym, ap, _∙_}
 use borrow.Author.Needs.{needs}
 use Rattle.sheet.specs.Table.{Full}
-use Rattle.sheet.proofs.Decided.{in-lines, in-lengths, in-contents, table-reasons}
+use Rattle.sheet.proofs.Decided.{in-lines, in-lengths, in-numbers, table-reasons}
 use Rattle.sheet.proofs.reasons.decide_behind.Statement.{statement}
 use Rattle.sheet.proofs.reasons.decide_behind.Tie as tie
 
@@ -31,8 +31,8 @@ returns-2 c =
     let e = c .before .lengths .ensures in
     (e ∙ in-lengths (a .s .now) (a .p) (a .n) (a .l) (a .selectors) (a .labels) (a .witness) (a .publics) (a .challenges) (ap (λ r. r .number) (sym d) ∙ c .before .before .if1 .left) (λ u. c .if2 .taken (ap (λ r. r .number) e ∙ u)), λ u. absurd (c .if2 .taken u))
 
-decide-contents-requires : tie.Need-decide-contents-requires
-decide-contents-requires c κs =
+decide-numbers-requires : tie.Need-decide-numbers-requires
+decide-numbers-requires c κs =
     let s = c .before .before .before .before .before .before .before .before .before .before .pre .full in
     record { some = s .some; few = s .few; publics = s .publics; long = c .before .before .before .before .before .before .decide-lines .kept .1 .1 .1 .1 .0 ∙ s .long }
 
@@ -48,8 +48,8 @@ returns-3 c =
     let held = d .ensures .1 (c .before .before .before .before .if1 .left) in
     let t = d .last .1 .1 .1 .1 .0 in
     let full : Full (a .n) (a .l) t = record { some = s .some; few = s .few; publics = s .publics; long = d .kept .1 .1 .1 .1 .0 ∙ s .long } in (
-      c .decide-contents .ensures ∙ table-reasons (a .s .now) (a .p) (a .n) (a .l) t full held
-          ∙ in-contents (a .s .now) (a .p) (a .n) (a .l) (a .selectors) (a .labels) (a .witness) (a .publics) (a .challenges) (ap (λ r. r .number) (sym (d .ensures .0)) ∙ c .before .before .before .before .if1 .left) (ap (λ r. r .number) (sym e) ∙ c .before .before .if2 .left),
+      c .decide-numbers .ensures ∙ table-reasons (a .s .now) (a .p) (a .n) (a .l) t full held
+          ∙ in-numbers (a .s .now) (a .p) (a .n) (a .l) (a .selectors) (a .labels) (a .witness) (a .publics) (a .challenges) (ap (λ r. r .number) (sym (d .ensures .0)) ∙ c .before .before .before .before .if1 .left) (ap (λ r. r .number) (sym e) ∙ c .before .before .if2 .left),
       λ u. held,
     )
 
@@ -63,6 +63,6 @@ decide-behind-spec =
     lengths-requires
     same-length-2
     returns-2
-    decide-contents-requires
+    decide-numbers-requires
     same-length-3
     returns-3)

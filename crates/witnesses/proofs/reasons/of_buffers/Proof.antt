@@ -8,9 +8,8 @@ use Rattle.algebra.specs.Lists.{All}
 use Rattle.field.specs.Primes.{rows-power}
 use Rattle.field.specs.Reasons.{Reason}
 use Rattle.field.specs.ReasonLaws.{refused-first, refused-later}
-use Rattle.circuit.specs.Reasons.{shapeReasons}
+use Rattle.circuit.specs.Reasons.{shapeReasons, proveLengths, proveNumbers}
 use Rattle.circuit.specs.Shape.{Shape, shaped, shape-numbers}
-use Rattle.witnesses.specs.Deciding.{lengthReasons, contentReasons}
 use Rattle.witnesses.proofs.Decided.{length-numbers, few}
 use Rattle.witnesses.proofs.reasons.of_buffers.Statement.{statement}
 use Rattle.witnesses.proofs.reasons.of_buffers.Tie as tie
@@ -20,10 +19,10 @@ abbrev first : tie.Start → List Reason
 first s = shapeReasons (s .args .p) (s .args .n) (s .args .l)
 
 abbrev second : tie.Start → List Reason
-second s = lengthReasons (s .args .n) (s .args .l) (length (s .args .selectors .now)) (length (s .args .labels .now)) (length (s .args .witness .now)) (length (s .args .publics .now)) (length (s .args .transcript .now)) (length (s .args .challenges .now)) (length (s .args .scratch .now))
+second s = proveLengths (s .args .n) (s .args .l) (length (s .args .selectors .now)) (length (s .args .labels .now)) (length (s .args .witness .now)) (length (s .args .publics .now)) (length (s .args .transcript .now)) (length (s .args .challenges .now)) (length (s .args .scratch .now))
 
 abbrev third : tie.Start → List Reason
-third s = contentReasons (s .args .p) (s .args .n) (s .args .selectors .now) (s .args .labels .now) (s .args .witness .now) (s .args .publics .now) (s .args .challenges .now)
+third s = proveNumbers (s .args .p) (s .args .n) (s .args .selectors .now) (s .args .labels .now) (s .args .witness .now) (s .args .publics .now) (s .args .challenges .now)
 
 -- none of their reasons has number 0
 first-right : (s : tie.Start) → All (λ r. r .number ≢ 0) (first s)
@@ -57,8 +56,8 @@ returns-2 c =
     refused-later (first s) (second s ++ third s) (first-right s) _ _ (d .before .decide-shape .ensures) (d .if1 .left)
     (refused-first (second s) (third s) (second-right s) _ (c .before .lengths .ensures) (c .if2 .taken))
 
-contents-requires : tie.Need-contents-requires
-contents-requires c κs =
+numbers-requires : tie.Need-numbers-requires
+numbers-requires c κs =
     let s = start (c .before .before) in
     few (s .args .p) (s .args .n) (s .args .l) (s .args .selectors .now) (s .args .labels .now) (s .args .witness .now) (s .args .publics .now) (s .args .transcript .now) (s .args .challenges .now) (s .args .scratch .now) _ (shape-known (c .before .before)) (c .before .lengths .ensures) (c .if2 .left)
 
@@ -67,9 +66,9 @@ returns-3 c =
     let d = c .before .before .before in
     let s = start d in
     refused-later (first s) (second s ++ third s) (first-right s) _ _ (d .before .decide-shape .ensures) (d .if1 .left)
-    (refused-later (second s) (third s) (second-right s) _ _ (c .before .before .lengths .ensures) (c .before .if2 .left) (c .contents .ensures))
+    (refused-later (second s) (third s) (second-right s) _ _ (c .before .before .lengths .ensures) (c .before .if2 .left) (c .numbers .ensures))
 
 pub of-buffers-spec : {M : Type 1} → statement M
 of-buffers-spec =
     tie.close
-    (tie.spec decide-shape-requires returns lengths-requires returns-2 contents-requires returns-3)
+    (tie.spec decide-shape-requires returns lengths-requires returns-2 numbers-requires returns-3)

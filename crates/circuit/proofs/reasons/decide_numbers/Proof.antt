@@ -1,4 +1,4 @@
--- `circuit::reasons::decide_contents` meets its contract: the reasons are tested in the order of their list. Assumes nothing.
+-- `circuit::reasons::decide_numbers` meets its contract: the reasons are tested in the order of their list. Assumes nothing.
 use mathlib.Core.Path.{ap, _∙_}
 use Prim.Native.Nat.{ℕ, _*_}
 use native.Mathlib.Omega.{arith}
@@ -6,8 +6,8 @@ use lib.ListN.{length}
 use borrow.Author.Tests.{lt-ltb, le-ltb}
 use borrow.Author.Needs.{needs}
 use Rattle.field.specs.Reasons.{firstAbove}
-use Rattle.circuit.proofs.reasons.decide_contents.Statement.{statement}
-use Rattle.circuit.proofs.reasons.decide_contents.Tie as tie
+use Rattle.circuit.proofs.reasons.decide_numbers.Statement.{statement}
+use Rattle.circuit.proofs.reasons.decide_numbers.Tie as tie
 
 cast-refused : tie.Need-cast-refused
 cast-refused c = search needs
@@ -54,8 +54,8 @@ returns-3 c =
       le-ltb (firstAbove (3 * a .n) (a .labels .now)) (length (a .labels .now)) (omega (arith, place)),
     )
 
-pub decide-contents-spec : {M : Type 1} → statement M
-decide-contents-spec =
+pub decide-numbers-spec : {M : Type 1} → statement M
+decide-numbers-spec =
     tie.close
     (tie.spec
     cast-refused

@@ -1,4 +1,4 @@
--- `sheet::contents::decide_contents` meets its contract: the reasons are tested in the order of their list. Assumes nothing.
+-- `sheet::numbers::decide_numbers` meets its contract: the reasons are tested in the order of their list. Assumes nothing.
 use mathlib.Core.Path.{ap, _∙_}
 use Prim.Native.Nat.{ℕ, _*_}
 use native.Mathlib.Omega.{arith}
@@ -11,8 +11,8 @@ use Rattle.field.specs.Reasons.{firstAbove}
 use Rattle.sheet.specs.Table.{labelsIn, tableElements}
 use Rattle.sheet.proofs.BlockLaws.{labels-fit}
 use Rattle.sheet.proofs.ElementLaws.{elements-long}
-use Rattle.sheet.proofs.contents.decide_contents.Statement.{statement}
-use Rattle.sheet.proofs.contents.decide_contents.Tie as tie
+use Rattle.sheet.proofs.numbers.decide_numbers.Statement.{statement}
+use Rattle.sheet.proofs.numbers.decide_numbers.Tie as tie
 
 elements-requires : tie.Need-elements-requires
 elements-requires c κs = search needs
@@ -91,8 +91,8 @@ returns-3 c =
       le-ltb (firstAbove (3 * s .n) labels) (length labels) (omega (arith, place, few, c .before .if2 .left)),
     )
 
-pub decide-contents-spec : {M : Type 1} → statement M
-decide-contents-spec =
+pub decide-numbers-spec : {M : Type 1} → statement M
+decide-numbers-spec =
     tie.close
     (tie.spec
     elements-requires

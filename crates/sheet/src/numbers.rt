@@ -2,7 +2,7 @@
 ghost use mathlib.Core.Path.{_≡_};
 ghost use Rattle.field.specs.Reasons.{answerOf, firstAbove};
 ghost use Rattle.sheet.specs.Table.{Full, tableElements};
-ghost use Rattle.sheet.specs.Deciding.{tableReasons};
+ghost use Rattle.sheet.specs.Deciding.{tableNumbers};
 use field::Answer;
 
 // The place of the first element that is p or more, counted through selectors, witness, public inputs and challenges end to end; their number
@@ -27,9 +27,9 @@ fn elements(p: u32, n: usize, l: usize, table: &[u32]) -> usize
 }
 
 // The reasons of elements and labels.
-pub fn decide_contents(p: u32, n: usize, l: usize, table: &[u32]) -> Answer
+pub fn decide_numbers(p: u32, n: usize, l: usize, table: &[u32]) -> Answer
     requires { ⌜ Full n l (now table) ⌝ }
-    ensures { λ r. ⌜ r ≡ answerOf (tableReasons p n l (now (table .entry))) ⌝ }
+    ensures { λ r. ⌜ r ≡ answerOf (tableNumbers p n l (now (table .entry))) ⌝ }
 {
     let at = elements(p, n, l, table);
     if at < 8 * n + l + 4 {

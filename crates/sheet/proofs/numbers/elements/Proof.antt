@@ -1,4 +1,4 @@
--- `sheet::contents::elements` meets its contract: each block is passed after those before it. Assumes nothing.
+-- `sheet::numbers::elements` meets its contract: each block is passed after those before it. Assumes nothing.
 use mathlib.Core.Path.{_≡_, _∙_}
 use mathlib.Core.List.{_++_}
 use Prim.Native.Nat.{_+_, _*_}
@@ -10,8 +10,8 @@ use Rattle.field.specs.ReasonLaws.{firstAbove-le}
 use Rattle.sheet.specs.Table.{selectorsIn, witnessIn, publicsIn, challengesIn}
 use Rattle.sheet.proofs.BlockLaws.{selectors-fit, witness-fit, publics-fit, challenges-fit}
 use Rattle.sheet.proofs.ElementLaws.{stay, pass}
-use Rattle.sheet.proofs.contents.elements.Statement.{statement}
-use Rattle.sheet.proofs.contents.elements.Tie as tie
+use Rattle.sheet.proofs.numbers.elements.Statement.{statement}
+use Rattle.sheet.proofs.numbers.elements.Tie as tie
 
 mul-above : tie.Need-mul-above
 mul-above c = search needs

@@ -1,4 +1,4 @@
--- `pointcheck::decide::contents` meets its contract: the place that was found tells. Assumes nothing.
+-- `pointcheck::decide::numbers` meets its contract: the place that was found tells. Assumes nothing.
 use mathlib.Core.Path.{_≡_, ap, _∙_}
 use mathlib.Core.List.{List, _++_}
 use Prim.Native.Nat.{ℕ, _+_}
@@ -7,8 +7,8 @@ use lib.ListN.{length, length-append}
 use borrow.Author.Tests.{lt-ltb, le-ltb}
 use borrow.Author.Needs.{needs}
 use Rattle.field.specs.Reasons.{firstAbove}
-use Rattle.pointcheck.proofs.decide.contents.Statement.{statement}
-use Rattle.pointcheck.proofs.decide.contents.Tie as tie
+use Rattle.pointcheck.proofs.decide.numbers.Statement.{statement}
+use Rattle.pointcheck.proofs.decide.numbers.Tie as tie
 
 -- the buffers end to end
 abbrev joined : tie.Start → List ℕ
@@ -53,8 +53,8 @@ returns-2 c =
     c .accepted .ensures
     ∙ rw (le-ltb (firstAbove (s .args .p) (joined s)) (length (joined s)) (omega (arith, above, long s, c .before .if1 .left)))
 
-pub contents-spec : {M : Type 1} → statement M
-contents-spec =
+pub numbers-spec : {M : Type 1} → statement M
+numbers-spec =
     tie.close
     (tie.spec
     first-of-four-requires

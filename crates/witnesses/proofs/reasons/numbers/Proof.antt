@@ -1,4 +1,4 @@
--- `witnesses::reasons::contents` meets its contract: the place that was found tells. Assumes nothing.
+-- `witnesses::reasons::numbers` meets its contract: the place that was found tells. Assumes nothing.
 use mathlib.Core.Path.{_≡_, sym, ap₂, _∙_}
 use mathlib.Core.List.{List, [], _∷_, _++_}
 use Prim.Native.Nat.{ℕ, _+_}
@@ -8,8 +8,8 @@ use lib.ListN.{length, length-append}
 use borrow.Author.Needs.{needs}
 use Rattle.field.specs.Reasons.{answerOf}
 use Rattle.circuit.specs.Reasons.{badLabel}
-use Rattle.witnesses.proofs.reasons.contents.Statement.{statement}
-use Rattle.witnesses.proofs.reasons.contents.Tie as tie
+use Rattle.witnesses.proofs.reasons.numbers.Statement.{statement}
+use Rattle.witnesses.proofs.reasons.numbers.Tie as tie
 
 -- the buffers end to end
 abbrev joined : tie.Start → List ℕ
@@ -31,14 +31,14 @@ add-long-2 c = search needs
 add-long-3 : tie.Need-add-long-3
 add-long-3 c = search needs
 
-decide-contents-requires : tie.Need-decide-contents-requires
-decide-contents-requires c κs = let s = c .before .before .before .before .before .before in (s .pre .rows, s .pre .elements, s .pre .labels-few)
+decide-numbers-requires : tie.Need-decide-numbers-requires
+decide-numbers-requires c κs = let s = c .before .before .before .before .before .before in (s .pre .rows, s .pre .elements, s .pre .labels-few)
 
 returns : tie.Need-returns
 returns c =
     let s = c .before .before .before .before .before .before .before in
-    c .decide-contents .ensures
+    c .decide-numbers .ensures
     ∙ ap₂ (λ (at long : ℕ). answerOf (record { number = 7; detail = at; applies = ltb at long } ∷ badLabel (s .args .n) (s .args .labels .now) ∷ [])) (c .before .first-of-four .ensures) (sym (long s))
 
-pub contents-spec : {M : Type 1} → statement M
-contents-spec = tie.close (tie.spec first-of-four-requires add-long add-long-2 add-long-3 decide-contents-requires returns)
+pub numbers-spec : {M : Type 1} → statement M
+numbers-spec = tie.close (tie.spec first-of-four-requires add-long add-long-2 add-long-3 decide-numbers-requires returns)
