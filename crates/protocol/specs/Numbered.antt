@@ -1,27 +1,35 @@
 -- Polynomials by number (document 01, "Polynomials"): the part that `polynomial` hands back of a prepared circuit and of a transcript is the
 -- polynomial of that number.
 --
+-- numbered                 where n is a number of rows and the lengths are right, `polynomial` hands back the numbered part
 -- numbered-prepared        0 to 7: the polynomials of the prepared circuit
 -- numbered-wire            8 to 10: the wires
 -- numbered-z, numbered-t   11: z; 12: t
 --
 -- Assumes nothing.
 use mathlib.Core.Path.{_≡_, sym, ap, subst, _∙_}
+use mathlib.Core.Bool.{true}
 use mathlib.Core.List.{List, [], append-nil}
 use Prim.Native.Nat.{ℕ, zero, suc, _+_, _*_, _<_}
 use native.Mathlib.Omega.{arith}
 use lib.ListN.{length, take, drop}
 use lib.Seq.{take-at}
 use denote.Ref.{RefT, now}
-use borrow.Author.Tests.{le-leb}
+use borrow.Author.Tests.{le-leb, eq-eqb}
 use Rattle.circuit.specs.Circuit.{Circuit}
-use Rattle.circuit.specs.Reasons.{quotientLength}
-use Rattle.circuit.specs.Promises.{Part, numberedPart, Hands}
+use Rattle.circuit.specs.Reasons.{preparedLength, quotientLength, transcriptLength}
+use Rattle.circuit.specs.Promises.{anyRows, Part, numberedPart, polynomialPart, Hands}
 use Rattle.protocol.specs.Protocol.{preparedPoly, prepared, transcript, part}
 use Rattle.protocol.specs.Layout.{prepared-part, wire-part, z-part, t-part}
 
 -- r is the part that is handed back of the buffers pre and lent
 module _ (n : ℕ) (pre lent r : RefT (List ℕ)) where
+  pub numbered : (k : ℕ) → anyRows n ≡ true → length (now pre) ≡ preparedLength n → length (now lent) ≡ transcriptLength n
+      → Hands (polynomialPart n k pre lent) r → Hands (numberedPart n k pre lent) r
+  numbered k a b c H =
+      let is : polynomialPart n k pre lent ≡ numberedPart n k pre lent = rw (a, eq-eqb (length (now pre)) (preparedLength n) b, eq-eqb (length (now lent)) (transcriptLength n) c) in
+      subst (λ (P : Part). Hands P r) is H
+
   pub numbered-prepared : (p : ℕ) (C : Circuit) → now pre ≡ prepared p n C → (k : ℕ) → k < 8 → Hands (numberedPart n k pre lent) r
       → now r ≡ preparedPoly p n C k
   numbered-prepared p C e k l H =
