@@ -14,7 +14,7 @@ use borrow.Author.Tests.{eqb-true}
 use Rattle.algebra.specs.PolynomialLaws.{length-reduced}
 use Rattle.field.specs.Reasons.{isAccepted}
 use Rattle.circuit.specs.Circuit.{Circuit, position}
-use Rattle.circuit.specs.Reasons.{quotientLength}
+use Rattle.circuit.specs.Buffers.{quotientLength}
 use Rattle.protocol.specs.Protocol.{rowZ, wiresOf, zOf, tOf, quotient, PointVerdict, accept, reject, pointVerdict, prepared, proved}
 use Rattle.protocol.specs.Lengths.{interpolation-length}
 use Rattle.archive.specs.declared.Deposited.{Deposited}

@@ -13,7 +13,7 @@ use Prim.Native.Nat.{ℕ, _+_, _*_, _-_, _≤_}
 use native.Mathlib.Omega.{arith}
 use lib.ListN.{length, take, drop, length-append, length-take, length-drop}
 use lib.Seq.{take-all}
-use Rattle.circuit.specs.Reasons.{transcriptLength}
+use Rattle.circuit.specs.Buffers.{transcriptLength}
 use Rattle.protocol.specs.Protocol.{part}
 use Rattle.archive.specs.Printed.{fieldsText, lineText, letterLine, transcriptText, textLength}
 use Rattle.archive.specs.Puts.{length-fields}

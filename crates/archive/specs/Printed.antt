@@ -23,7 +23,7 @@ use Rattle.field.specs.declared.Answer.{Answer}
 use Rattle.field.specs.Reasons.{answerOf, isAccepted}
 use Rattle.transform.specs.Transform.{scratchLength}
 use Rattle.circuit.specs.Circuit.{Circuit, lentCircuit, lentPublic, lentWitness}
-use Rattle.circuit.specs.Reasons.{transcriptLength}
+use Rattle.circuit.specs.Buffers.{transcriptLength}
 use Rattle.protocol.specs.Protocol.{prepared, wiresOf, zOf, tOf, proved, PointVerdict, accept, reject, part, pointVerdict, proveReasons}
 use Rattle.pointcheck.specs.declared.Judged.{Judged}
 use Rattle.pointcheck.specs.declared.Judged.the-variants.{None, Accept, Reject}

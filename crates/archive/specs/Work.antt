@@ -32,7 +32,7 @@ use Rattle.field.specs.Primes.{field-prime, rows-power}
 use Rattle.field.specs.Reasons.{answerOf, isAccepted}
 use Rattle.transform.specs.Transform.{scratchLength}
 use Rattle.circuit.specs.Circuit.{Circuit, lentCircuit, lentPublic, lentWitness}
-use Rattle.circuit.specs.Reasons.{preparedLength, transcriptLength}
+use Rattle.circuit.specs.Buffers.{preparedLength, transcriptLength}
 use Rattle.circuit.specs.RightlyLent.{RightCircuit, RightPublics, prepare-taken, point-taken}
 use Rattle.protocol.specs.Protocol.{prepared, wiresOf, zOf, tOf, proved, PointVerdict, accept, reject, pointVerdict, proveReasons}
 use Rattle.protocol.specs.Layout.{prepared-elements, wire-part, z-part, t-part, proved-elements}

@@ -4,7 +4,7 @@ ghost use Prim.Native.Nat.{_≤_};
 ghost use lib.ListN.{length};
 ghost use Rattle.field.specs.Fields.{Admissible};
 ghost use Rattle.circuit.specs.Circuit.{lentCircuit};
-ghost use Rattle.circuit.specs.Reasons.{preparedLength, transcriptLength};
+ghost use Rattle.circuit.specs.Buffers.{preparedLength, transcriptLength};
 ghost use Rattle.circuit.specs.RightlyLent.{RightCircuit};
 ghost use Rattle.protocol.specs.Protocol.{prepared as Protocol·prepared};
 ghost use Rattle.pointcheck.specs.Promises.{judgedAt};

@@ -4,18 +4,18 @@
 -- checked                      it holds where no reason applies
 --
 -- Assumes nothing.
-use mathlib.Core.Path.{_≡_, sym, _∙_}
-use mathlib.Core.List.{List}
-use Prim.Native.Nat.{ℕ, _*_, _<_}
+use mathlib.Core.Path.{_≡_, refl, sym, _∙_}
+use mathlib.Core.List.{List, [], _∷_}
+use Prim.Native.Nat.{ℕ, _*_}
 use native.Mathlib.Omega.{arith}
 use lib.ListN.{length}
-use borrow.Author.Tests.{not-false, eqb-true}
-use Rattle.algebra.specs.Lists.{All}
-use Rattle.field.specs.Primes.{rows-power}
-use Rattle.field.specs.Reasons.{answerOf}
-use Rattle.field.specs.ReasonLaws.{none-applies, elements-of}
-use Rattle.circuit.specs.Reasons.{labelsLength, permutationReasons}
+use Rattle.field.specs.Lent.{lent-numbers, lent-of}
+use Rattle.field.specs.Reasons.{answerOf, lentReasons}
+use Rattle.field.specs.ReasonLaws.{none-applies, both-none, elements-of}
 use Rattle.circuit.specs.Ahead.{Labels}
+use Rattle.circuit.specs.Buffers.{labelsLength}
+use Rattle.circuit.specs.Reasons.{badLabel, permutationDue, permutationReasons}
+use Rattle.circuit.specs.RightlyLent.{labels-of}
 
 pub record Checked (n : ℕ) (labels positions : List ℕ) : Type 0 where
   pub labels-length : length labels ≡ labelsLength n
@@ -24,11 +24,12 @@ pub record Checked (n : ℕ) (labels positions : List ℕ) : Type 0 where
 
 pub checked : (p n : ℕ) (labels positions : List ℕ) → answerOf (permutationReasons p n labels positions) .number ≡ 0 → Checked n labels positions
 checked p n labels positions e =
-    let none = none-applies (permutationReasons p n labels positions) (omega arith, (omega arith, (omega arith, (omega arith, (omega arith, tt))))) e in
-    let long : length labels ≡ 3 * n = eqb-true _ _ (not-false _ (none .1 .1 .0)) in
-    let below : All (λ (l : ℕ). l < 3 * n) labels = elements-of (3 * n) labels (none .1 .1 .1 .1 .0) in
+    let long : List ℕ = length labels ∷ length positions ∷ [] in
+    let both = both-none (lentReasons p n 0 long (permutationDue n)) (badLabel n labels ∷ []) (lent-numbers p n 0 long (permutationDue n)) e in
+    let lent = lent-of p n 0 long (permutationDue n) refl (both .0) in
+    let labelled : length labels ≡ 3 * n = cc (lent .lengths) in
     record {
-      labels-length = long;
-      positions-length = eqb-true _ _ (not-false _ (none .1 .1 .1 .0)) ∙ sym long;
-      right = record { few = omega (arith, rows-power p n (not-false _ (none .1 .0)) .small); below = rw long below };
+      labels-length = labelled;
+      positions-length = cc (lent .lengths);
+      right = labels-of n labels (record { long = labelled; below = elements-of (3 * n) labels (none-applies (badLabel n labels ∷ []) (omega arith, tt) (both .1) .0) }) (lent .admissible);
     }

@@ -3,7 +3,8 @@
 -- position n c i            the position of column c and row i: c × n + i
 -- Circuit                   the selectors of a row and the label of a position
 -- lentCircuit n s l         the circuit in lent selectors and labels, column after column
--- lentWitness w             the wire value of a position, in a lent witness (document 01: the contents)
+-- lentWitness n w k         the wire value of position k, in a lent witness (document 01: the contents), which is lent column after column
+-- laidWitness n v           the wire values v of the 3n positions, as they are lent
 -- lentPublic x              the public input of a row, in lent public inputs (document 01: public numbers); 0 past their end
 -- permutation m label k     where the copy permutation leads from position k (document 01: the wiring): the next higher of the m positions with
 --                           its label, from the highest to the lowest; a lone position leads to itself
@@ -18,6 +19,7 @@ use Prim.Native.Nat.{ℕ, suc, _+_, _*_, _%_, _-_, _<_, pred}
 use lib.Dec.{eqb, ltb}
 use lib.ListN.{getD}
 use Rattle.algebra.specs.Modular.{first}
+use Rattle.algebra.specs.Lists.{tab}
 
 abbrev pub position : ℕ → ℕ → ℕ → ℕ
 position n c i = c * n + i
@@ -41,8 +43,12 @@ lentCircuit n selectors labels =
       label = λ k. getD labels k 0;
     }
 
-abbrev pub lentWitness : List ℕ → ℕ → ℕ
-lentWitness witness k = getD witness k 0
+-- column × n + row is the position itself
+unfoldable pub lentWitness : ℕ → List ℕ → ℕ → ℕ
+lentWitness n witness k = getD witness k 0
+
+unfoldable pub laidWitness : ℕ → (ℕ → ℕ) → List ℕ
+laidWitness n v = tab v (3 * n)
 
 abbrev pub lentPublic : List ℕ → ℕ → ℕ
 lentPublic publics i = getD publics i 0

@@ -1,10 +1,12 @@
 -- Definitions, then theorems.
 pub mod Circuit
+pub mod Buffers
 pub mod Reasons
 pub mod Promises
 pub mod Ahead
-pub mod Points
+pub mod Publics
 pub mod Positions
-pub mod Shape
+pub mod Parts
+pub mod Witness
 pub mod Permutation
 pub mod RightlyLent

@@ -4,6 +4,8 @@
 -- anyRows n                 n is a number of rows that one of the three primes has
 -- Part                      a part of a lent buffer: the buffer, where the part starts, how many numbers it has
 -- noPart transcript         the empty part at the transcript's start
+-- preparedPlace n s prepared               polynomial s of a lent prepared circuit
+-- wirePlace n c transcript, zPlace, tPlace the wire of column c, z and t of a lent transcript
 -- numberedPart n k prepared transcript     polynomial k of lent buffers of the right lengths: 0 to 7 (prepared), 8 to 10 (wires), 11 (z), 12 (t)
 -- polynomialPart n k prepared transcript   the same of any lent buffers: none where n or a length is wrong
 -- Hands P r                 what `polynomial` promises of the part r that it hands back: it has the numbers of P, and lies where they lie
@@ -21,7 +23,8 @@ use Rattle.field.specs.declared.Answer.{Answer}
 use Rattle.field.specs.Fields.{isRows}
 use Rattle.field.specs.Reasons.{answerOf, isAccepted}
 use Rattle.circuit.specs.Circuit.{permutation}
-use Rattle.circuit.specs.Reasons.{labelsLength, preparedLength, quotientLength, transcriptLength, permutationReasons}
+use Rattle.circuit.specs.Buffers.{labelsLength, preparedLength, wireLength, zLength, quotientLength, transcriptLength, preparedStart, wireStart, zStart, tStart}
+use Rattle.circuit.specs.Reasons.{permutationReasons}
 
 -- refused: the positions as they came; accepted: the position that the permutation leads to from each. The labels are only read.
 pub record Permutes (p n : ℕ) (labels positions : List ℕ) (r : Answer) (positions' : List ℕ) : Type 0 where
@@ -39,12 +42,24 @@ pub record Part : Type 0 where
 abbrev pub noPart : RefT (List ℕ) → Part
 noPart transcript = record { buffer = transcript; start = 0; count = 0 }
 
+abbrev pub preparedPlace : ℕ → ℕ → RefT (List ℕ) → Part
+preparedPlace n s prepared = record { buffer = prepared; start = preparedStart n s; count = n }
+
+abbrev pub wirePlace : ℕ → ℕ → RefT (List ℕ) → Part
+wirePlace n c transcript = record { buffer = transcript; start = wireStart n c; count = wireLength n }
+
+abbrev pub zPlace : ℕ → RefT (List ℕ) → Part
+zPlace n transcript = record { buffer = transcript; start = zStart n; count = zLength n }
+
+abbrev pub tPlace : ℕ → RefT (List ℕ) → Part
+tPlace n transcript = record { buffer = transcript; start = tStart n; count = quotientLength n }
+
 abbrev pub numberedPart : ℕ → ℕ → RefT (List ℕ) → RefT (List ℕ) → Part
 numberedPart n k prepared transcript =
-    cond (leb k 7) (record { buffer = prepared; start = k * n; count = n })
-    (cond (leb k 10) (record { buffer = transcript; start = (k - 8) * n; count = n })
-    (cond (eqb k 11) (record { buffer = transcript; start = 3 * n; count = n })
-    (cond (eqb k 12) (record { buffer = transcript; start = 4 * n; count = quotientLength n })
+    cond (leb k 7) (preparedPlace n k prepared)
+    (cond (leb k 10) (wirePlace n (k - 8) transcript)
+    (cond (eqb k 11) (zPlace n transcript)
+    (cond (eqb k 12) (tPlace n transcript)
     (noPart transcript))))
 
 abbrev pub polynomialPart : ℕ → ℕ → RefT (List ℕ) → RefT (List ℕ) → Part

@@ -8,43 +8,50 @@ ghost use Rattle.circuit.specs.Promises.{Permutes, polynomialPart, Hands
 use field::Answer;
 
 mod copies;
+pub mod due;
+mod lengths;
 mod parts;
 mod publics;
 mod reasons;
 mod tags;
+mod witness;
 
 pub use copies::fill_permutation;
+pub use lengths::labels_length;
+pub use lengths::prepared_length;
+pub use lengths::quotient_length;
+pub use lengths::selectors_length;
+pub use lengths::t_start;
+pub use lengths::transcript_length;
+pub use lengths::witness_length;
+pub use lengths::z_start;
+pub use parts::prepared_part;
+pub use parts::t_part;
+pub use parts::wire_part;
+pub use parts::z_part;
 pub use publics::public_of;
 pub use publics::public_polynomial;
+pub use reasons::decide_labels;
 pub use reasons::decide_numbers;
-pub use reasons::decide_shape;
 pub use tags::factor_of;
 pub use tags::multiplier_of;
 pub use tags::own_tags;
 pub use tags::wired_tags;
+pub use witness::wire_value;
+pub use witness::wire_values;
 
 // Why a call of `permutation` is turned down, if it is. Nothing is written.
 fn decide(p: u32, n: u32, labels: &[u32], positions: &[u32]) -> Answer
     ensures { λ r. ⌜ r ≡ answerOf (permutationReasons p n (now (labels .entry)) (now (positions .entry))) ⌝ }
 {
-    if !field::is_field(p) {
-        return field::refused(2, 0);
+    let long = [labels.len(), positions.len()];
+    let due = due::permutation(n as usize);
+    let answer = field::decide_lent(p, n, 0, &long, &due);
+    let number = answer.number;
+    if number != 0 {
+        return answer;
     }
-    if !field::is_rows(p, n) {
-        return field::refused(3, 0);
-    }
-    let m = 3 * n;
-    if labels.len() != m as usize {
-        return field::refused(6, 1);
-    }
-    if positions.len() != m as usize {
-        return field::refused(6, 2);
-    }
-    let at = field::first_above(m, labels);
-    if at < labels.len() {
-        return field::refused(8, at as u32);
-    }
-    field::accepted()
+    decide_labels(n, labels)
 }
 
 // The position that the copy permutation leads to from each of the 3n positions.
@@ -68,10 +75,10 @@ pub fn polynomial<'a>(n: u32, number: u32, prepared: &'a [u32], transcript: &'a 
         return &transcript[..0];
     }
     let m = n as usize;
-    if prepared.len() != 8 * m {
+    if prepared.len() != prepared_length(m) {
         return &transcript[..0];
     }
-    if transcript.len() != 7 * m - 3 {
+    if transcript.len() != transcript_length(m) {
         return &transcript[..0];
     }
     parts::part(m, number, prepared, transcript)

@@ -1,9 +1,10 @@
-// The polynomials in lent buffers, by number.
+// The polynomials in lent buffers: each as a part of its buffer, and by number.
 ghost use mathlib.Core.Path.{_≡_};
-ghost use Prim.Native.Nat.{_≤_};
+ghost use Prim.Native.Nat.{_-_, _≤_, _<_};
 ghost use lib.ListN.{length};
-ghost use Rattle.circuit.specs.Reasons.{preparedLength, transcriptLength};
-ghost use Rattle.circuit.specs.Promises.{anyRows, numberedPart, Hands};
+ghost use Rattle.circuit.specs.Buffers.{preparedLength, wireLength, zLength, tStart, transcriptLength};
+ghost use Rattle.circuit.specs.Promises.{anyRows, preparedPlace, wirePlace, zPlace, numberedPart, Hands};
+use super::lengths;
 
 // n is a number of rows that one of the three primes has.
 pub fn any_rows(n: u32) -> bool
@@ -12,23 +13,59 @@ pub fn any_rows(n: u32) -> bool
     field::is_rows(17, n) || field::is_rows(97, n) || field::is_rows(2013265921, n)
 }
 
-// Polynomial `number` of buffers of the right lengths, m being the number of rows.
-pub fn part<'a>(m: usize, number: u32, prepared: &'a [u32], transcript: &'a [u32]) -> &'a [u32]
-    requires { ⌜ (2 ≤ m) × (m ≤ 1024) ⌝ }
-    requires { ⌜ (length (now prepared) ≡ preparedLength m) × (length (now transcript) ≡ transcriptLength m) ⌝ }
-    ensures { λ r. ⌜ Hands (numberedPart m number (prepared .entry) (transcript .entry)) r ⌝ }
+// Polynomial s of a prepared circuit.
+pub fn prepared_part(n: usize, s: usize, prepared: &[u32]) -> &[u32]
+    requires { ⌜ (n ≤ 1024) × (s < 8) × (preparedLength n ≤ length (now prepared)) ⌝ }
+    ensures { λ r. ⌜ Hands (preparedPlace n s (prepared .entry)) r ⌝ }
+    ensures { λ r. ⌜ length (now r) ≡ n ⌝ }
+{
+    let at = lengths::prepared_start(n, s);
+    let end = at + n;
+    &prepared[at..end]
+}
+
+// The wire of a column, of a transcript or of its first part, which ends where t starts.
+pub fn wire_part(n: usize, column: usize, transcript: &[u32]) -> &[u32]
+    requires { ⌜ (n ≤ 1024) × (column < 3) × (tStart n ≤ length (now transcript)) ⌝ }
+    ensures { λ r. ⌜ Hands (wirePlace n column (transcript .entry)) r ⌝ }
+    ensures { λ r. ⌜ length (now r) ≡ wireLength n ⌝ }
+{
+    let at = lengths::wire_start(n, column);
+    let end = at + lengths::wire_length(n);
+    &transcript[at..end]
+}
+
+// z of a transcript or of its first part.
+pub fn z_part(n: usize, transcript: &[u32]) -> &[u32]
+    requires { ⌜ (n ≤ 1024) × (tStart n ≤ length (now transcript)) ⌝ }
+    ensures { λ r. ⌜ Hands (zPlace n (transcript .entry)) r ⌝ }
+    ensures { λ r. ⌜ length (now r) ≡ zLength n ⌝ }
+{
+    let at = lengths::z_start(n);
+    let end = lengths::t_start(n);
+    &transcript[at..end]
+}
+
+// t of a transcript: what stands behind z.
+pub fn t_part(n: usize, transcript: &[u32]) -> &[u32]
+    requires { ⌜ (n ≤ 1024) × (tStart n ≤ length (now transcript)) ⌝ }
+    ensures { λ r. ⌜ Hands (record { buffer = transcript .entry; start = tStart n; count = length (now (transcript .entry)) - tStart n }) r ⌝ }
+{
+    let at = lengths::t_start(n);
+    &transcript[at..]
+}
+
+// Polynomial `number` of buffers of the right lengths, n being the number of rows.
+pub fn part<'a>(n: usize, number: u32, prepared: &'a [u32], transcript: &'a [u32]) -> &'a [u32]
+    requires { ⌜ (2 ≤ n) × (n ≤ 1024) ⌝ }
+    requires { ⌜ (length (now prepared) ≡ preparedLength n) × (length (now transcript) ≡ transcriptLength n) ⌝ }
+    ensures { λ r. ⌜ Hands (numberedPart n number (prepared .entry) (transcript .entry)) r ⌝ }
 {
     match number {
-        0..=7 => {
-            let at = number as usize * m;
-            &prepared[at..at + m]
-        }
-        8..=10 => {
-            let at = (number - 8) as usize * m;
-            &transcript[at..at + m]
-        }
-        11 => &transcript[3 * m..4 * m],
-        12 => &transcript[4 * m..],
+        0..=7 => prepared_part(n, number as usize, prepared),
+        8..=10 => wire_part(n, (number - 8) as usize, transcript),
+        11 => z_part(n, transcript),
+        12 => t_part(n, transcript),
         _ => &transcript[..0],
     }
 }

@@ -4,7 +4,7 @@ ghost use lib.ListN.{length};
 ghost use Rattle.algebra.specs.Lists.{tab};
 ghost use Rattle.transform.specs.Transform.{interpolation};
 ghost use Rattle.circuit.specs.Circuit.{lentPublic};
-ghost use Rattle.circuit.specs.Points.{PublicRows};
+ghost use Rattle.circuit.specs.Publics.{PublicRows};
 
 // The public input of a row; 0 past their end.
 pub fn public_of(publics: &[u32], i: usize) -> u32

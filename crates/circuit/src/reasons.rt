@@ -2,39 +2,28 @@
 ghost use mathlib.Core.Path.{_≡_};
 ghost use mathlib.Core.List.{[], _∷_};
 ghost use Prim.Native.Nat.{_≤_};
-ghost use lib.Dec.{ltb};
 ghost use lib.ListN.{length};
-ghost use Rattle.field.specs.Reasons.{answerOf};
-ghost use Rattle.circuit.specs.Reasons.{shapeReasons, badLabel};
+ghost use Rattle.field.specs.Reasons.{answerOf, reasonAt};
+ghost use Rattle.circuit.specs.Reasons.{badLabel};
 use field::Answer;
 
-// The reasons of p, n and l.
-pub fn decide_shape(p: u32, n: u32, l: u32) -> Answer
-    ensures { λ r. ⌜ r ≡ answerOf (shapeReasons p n l) ⌝ }
+// The reason of the labels, 8.
+pub fn decide_labels(n: u32, labels: &[u32]) -> Answer
+    requires { ⌜ (n ≤ 1024) × (length (now labels) ≤ 65536) ⌝ }
+    ensures { λ r. ⌜ r ≡ answerOf (badLabel n (now (labels .entry)) ∷ []) ⌝ }
 {
-    if !field::is_field(p) {
-        return field::refused(2, 0);
-    }
-    if !field::is_rows(p, n) {
-        return field::refused(3, 0);
-    }
-    if n < l {
-        return field::refused(4, 0);
-    }
-    field::accepted()
+    field::decide_at(8, field::first_above(3 * n, labels), labels.len())
 }
 
-// The reasons of the numbers in the buffers, elements and labels. `at` is the place of the first number that is p or more, among `long` numbers; `long` stands for none.
-pub fn decide_numbers(n: u32, at: usize, long: usize, labels: &[u32]) -> Answer
-    requires { ⌜ (n ≤ 1024) × (long ≤ 65536) × (length (now labels) ≤ 65536) ⌝ }
-    ensures { λ r. ⌜ r ≡ answerOf (record { number = 7; detail = at; applies = ltb at long } ∷ badLabel n (now (labels .entry)) ∷ []) ⌝ }
+// The reasons of the numbers in the buffers, 7 and 8. `at` is the place of the first number that is p or more, among `count`; `count` stands for none.
+pub fn decide_numbers(n: u32, at: usize, count: usize, labels: &[u32]) -> Answer
+    requires { ⌜ (n ≤ 1024) × (count ≤ 65536) × (length (now labels) ≤ 65536) ⌝ }
+    ensures { λ r. ⌜ r ≡ answerOf (reasonAt 7 at count ∷ badLabel n (now (labels .entry)) ∷ []) ⌝ }
 {
-    if at < long {
-        return field::refused(7, at as u32);
+    let elements = field::decide_at(7, at, count);
+    let number = elements.number;
+    if number != 0 {
+        return elements;
     }
-    let place = field::first_above(3 * n, labels);
-    if place < labels.len() {
-        return field::refused(8, place as u32);
-    }
-    field::accepted()
+    decide_labels(n, labels)
 }

@@ -4,3 +4,4 @@ pub mod Reasons
 pub mod Primes
 pub mod Domain
 pub mod ReasonLaws
+pub mod Lent

@@ -3,10 +3,11 @@
 -- none-applies     an answer with number 0 means that no reason of the list applies (no reason has number 0)
 -- taken            where no reason of the list applies, the answer is number 0, detail 0
 -- answerOf-append  of two lists of reasons: the answer of the first, unless none of its reasons applies
+-- both-none        an answer of two lists with number 0: so is that of each
+-- both-taken       where both answers are number 0, detail 0, so is that of the two lists
 -- refused-first, refused-later   the same for a call that answers by the first list where one of its reasons applies, and else by the second
 -- elements-of      where no number of a list is p or more, all are elements
 -- elements-none    where all are elements, none is p or more
--- length-none      a right length is no reason
 -- firstAbove-le    the place of the first number that is p or more is at most the length
 -- firstAbove-append  of two lists end to end: the place in the first, or else the length of the first + the place in the second
 -- further          the same for a call that has passed the first list and goes on with the second
@@ -14,15 +15,15 @@
 -- Assumes nothing.
 use mathlib.Core.Path.{_≡_, refl, sym, ap, ap₂, _∙_}
 use mathlib.Core.Logic.{_≢_}
-use mathlib.Core.Bool.{Bool, true, false, not, cond}
+use mathlib.Core.Bool.{Bool, true, false, cond}
 use mathlib.Core.List.{List, [], _∷_, _++_}
 use Prim.Native.Nat.{ℕ, _+_, _-_, _≤_, _<_}
 use native.Mathlib.Decide.{decLt}
 use native.Mathlib.Omega.{arith}
-use lib.Dec.{eqb, leb, ltb}
+use lib.Dec.{leb, ltb}
 use lib.ListN.{length, getD, length-append, List·getD-append}
 use lib.Seq.{getD-append-add}
-use borrow.Author.Tests.{ltb-false, leb-false, leb-true, lt-ltb, le-ltb, eq-eqb, ne-eqb}
+use borrow.Author.Tests.{ltb-false, leb-false, leb-true, eqb-true, eqb-false, lt-ltb, le-ltb, eq-eqb, ne-eqb}
 use Rattle.algebra.specs.Lists.{All}
 use Rattle.algebra.specs.Search.{First, first-is, first-none, first-same}
 use Rattle.algebra.specs.Tables.{all-getD, all-of}
@@ -41,9 +42,6 @@ none-applies (r ∷ rs) n e = go (r .applies) refl e (none-applies rs (n .1))
 pub taken : (rs : List Reason) → All (λ r. r .applies ≡ false) rs → answerOf rs ≡ record { number = 0; detail = 0 }
 taken [] a = refl
 taken (r ∷ rs) a = rw (a .0) (taken rs (a .1))
-
-pub length-none : {long due : ℕ} → long ≡ due → not (eqb long due) ≡ false
-length-none {long} {due} e = rw (eq-eqb long due e)
 
 pub answerOf-append : (rs ss : List Reason) → All (λ r. r .number ≢ 0) rs
     → answerOf (rs ++ ss) ≡ cond (isAccepted (answerOf rs)) (answerOf ss) (answerOf rs)
@@ -65,6 +63,19 @@ pub refused-later : (rs ss : List Reason) → All (λ r. r .number ≢ 0) rs →
     → b ≡ answerOf (rs ++ ss)
 refused-later rs ss n a b e h f =
     rw (answerOf-append rs ss n, eq-eqb (answerOf rs .number) 0 (sym (ap (λ (b : Answer). b .number) e) ∙ h)) f
+
+pub both-none : (rs ss : List Reason) → All (λ r. r .number ≢ 0) rs → answerOf (rs ++ ss) .number ≡ 0
+    → (answerOf rs .number ≡ 0) × (answerOf ss .number ≡ 0)
+both-none rs ss n e = go (isAccepted (answerOf rs)) refl (ap (λ (a : Answer). a .number) (sym (answerOf-append rs ss n)) ∙ e)
+  where
+    go : (b : Bool) → isAccepted (answerOf rs) ≡ b → cond b (answerOf ss) (answerOf rs) .number ≡ 0
+        → (answerOf rs .number ≡ 0) × (answerOf ss .number ≡ 0)
+    go true u f = (eqb-true (answerOf rs .number) 0 u, f)
+    go false u f = absurd (eqb-false (answerOf rs .number) 0 u f)
+
+pub both-taken : (rs ss : List Reason) → All (λ r. r .number ≢ 0) rs → answerOf rs ≡ record { number = 0; detail = 0 }
+    → answerOf ss ≡ record { number = 0; detail = 0 } → answerOf (rs ++ ss) ≡ record { number = 0; detail = 0 }
+both-taken rs ss n e f = sym (refused-later rs ss n _ _ refl (ap (λ (a : Answer). a .number) e) refl) ∙ f
 
 pub elements-of : (p : ℕ) (xs : List ℕ) → ltb (firstAbove p xs) (length xs) ≡ false → All (λ (x : ℕ). x < p) xs
 unfolding firstAbove

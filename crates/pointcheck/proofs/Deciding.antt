@@ -19,7 +19,8 @@ use Rattle.field.specs.Fields.{Admissible}
 use Rattle.field.specs.Reasons.{Reason, answerOf}
 use Rattle.field.specs.ReasonLaws.{none-applies, elements-of}
 use Rattle.transform.specs.Transform.{scratchLength}
-use Rattle.circuit.specs.Reasons.{preparedLength, transcriptLength, pointReasons, pointLengths}
+use Rattle.circuit.specs.Buffers.{preparedLength, transcriptLength}
+use Rattle.circuit.specs.Reasons.{pointReasons, pointLengths}
 use Rattle.pointcheck.specs.Buffers.{Checked}
 
 module _ (n l : ℕ) (publics prepared transcript challenges scratch : List ℕ) where

@@ -5,7 +5,7 @@ ghost use lib.ListN.{length};
 ghost use Rattle.algebra.specs.Polynomial.{eval};
 ghost use Rattle.transform.specs.Transform.{interpolation};
 ghost use Rattle.circuit.specs.Circuit.{lentPublic};
-ghost use Rattle.circuit.specs.Points.{PublicRows};
+ghost use Rattle.circuit.specs.Publics.{PublicRows};
 
 // Its value at x. The scratch is written.
 pub fn public_at(p: u32, n: u32, publics: &[u32], x: u32, scratch: &mut [u32]) -> u32

@@ -22,7 +22,7 @@ use Rattle.transform.specs.Transform.{interpolation}
 use Rattle.transform.specs.Interpolation.{interpolation-ext}
 use Rattle.transform.specs.Parts.{laid, interpolated}
 use Rattle.circuit.specs.Circuit.{lentCircuit, permutation, position}
-use Rattle.circuit.specs.Reasons.{selectorsLength}
+use Rattle.circuit.specs.Buffers.{selectorsLength}
 use Rattle.protocol.specs.Protocol.{prepared, wiredTag}
 use Rattle.preparing.specs.Promises.{rowsOf}
 

@@ -17,7 +17,8 @@ use Rattle.field.specs.Fields.{Admissible, tag}
 use Rattle.field.specs.Reasons.{answerOf, isAccepted}
 use Rattle.transform.specs.Transform.{scratchLength}
 use Rattle.circuit.specs.Circuit.{lentCircuit, permutation}
-use Rattle.circuit.specs.Reasons.{selectorsLength, preparedLength, prepareReasons}
+use Rattle.circuit.specs.Buffers.{selectorsLength, preparedLength}
+use Rattle.circuit.specs.Reasons.{prepareReasons}
 use Rattle.protocol.specs.Protocol.{prepared}
 
 -- selectors and labels are only read

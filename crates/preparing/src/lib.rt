@@ -8,7 +8,7 @@ ghost use Rattle.algebra.specs.Polynomial.{Elements};
 ghost use Rattle.field.specs.Reasons.{answerOf};
 ghost use Rattle.transform.specs.Transform.{scratchLength};
 ghost use Rattle.circuit.specs.Circuit.{lentCircuit};
-ghost use Rattle.circuit.specs.Points.{Points};
+ghost use Rattle.transform.specs.Points.{Points};
 ghost use Rattle.circuit.specs.Reasons.{prepareReasons};
 ghost use Rattle.protocol.specs.Protocol.{prepared};
 ghost use Rattle.preparing.specs.Promises.{Prepares, Checked, rowsOf};

@@ -29,7 +29,7 @@ use Rattle.field.specs.Domain.{Domain, domain}
 use Rattle.transform.specs.Interpolation.{rows-positive}
 use Rattle.transform.specs.Transform.{valueAt}
 use Rattle.circuit.specs.Circuit.{Circuit, position, Satisfies}
-use Rattle.circuit.specs.Reasons.{preparedLength, quotientLength, transcriptLength}
+use Rattle.circuit.specs.Buffers.{preparedLength, quotientLength, transcriptLength}
 use Rattle.circuit.specs.Positions.{position-column, position-row}
 use Rattle.protocol.specs.Protocol.{fOf, rowZ, prepared, wiresOf, zOf, tOf, transcript, proved, pass, rowVerdict, accept, pointVerdict, zeroFactor}
 use Rattle.protocol.specs.Lengths.{length-F-rows}

@@ -16,6 +16,7 @@ use mathlib.Core.Path.{_≡_, refl, sym}
 use mathlib.Core.List.{List, [], _∷_, _++_}
 use Prim.Native.Nat.{ℕ, _*_, _%_, _<_}
 use lib.Dec.{lit<}
+use lib.ListN.{getD}
 use Rattle.algebra.specs.Lists.{tab, All}
 use Rattle.algebra.specs.Modular.{powF, first, inverse}
 use Rattle.algebra.specs.Congruence.{cong, back, cong-mod, _⨾_}
@@ -49,7 +50,7 @@ abbrev publics : Sheet → ℕ → ℕ
 publics s = lentPublic (s .given)
 
 abbrev witness : Sheet → ℕ → ℕ
-witness s = lentWitness (s .contents)
+witness s = lentWitness (s .n) (s .contents)
 
 abbrev gates : Sheet → List ℕ
 gates s = tab (gate (s .p) (s .n) (circuit s) (publics s) (witness s)) (s .n)
@@ -58,7 +59,7 @@ abbrev transcriptOf : Sheet → List ℕ
 transcriptOf s = proved (s .p) (s .n) (circuit s) (publics s) (witness s) (s .beta) (s .gamma) (s .alpha)
 
 abbrev rowCheck : Sheet → List ℕ → RowVerdict
-rowCheck s z = rowVerdict (s .p) (s .n) (circuit s) (publics s) (witness s) (lentWitness z) (s .beta) (s .gamma)
+rowCheck s z = rowVerdict (s .p) (s .n) (circuit s) (publics s) (witness s) (λ i. getD z i 0) (s .beta) (s .gamma)
 
 abbrev pointCheck : Sheet → List ℕ → List ℕ → ℕ → PointVerdict
 pointCheck s pre lent zeta = pointVerdict (s .p) (s .n) pre (publics s) lent (s .beta) (s .gamma) (s .alpha) zeta
@@ -239,7 +240,7 @@ table =
     ∷ []
 
 right : All (λ r. r .is ≡ r .should) table
-unfolding tab powF first inverse quotientVanishing reduced generator root point multiplier tag interpolation permutation gate rowN rowD rowZ polyN polyD polyL gatePart stepPart startPart polyF quotient prepared rowsFrom pointVerdict brokenGate brokenCopy zeroFactor
+unfolding tab powF first inverse quotientVanishing reduced generator root point multiplier tag interpolation lentWitness permutation gate rowN rowD rowZ polyN polyD polyL gatePart stepPart startPart polyF quotient prepared rowsFrom pointVerdict brokenGate brokenCopy zeroFactor
 right = refl & refl & refl & refl & refl & refl & refl & refl & refl & refl & refl & refl & refl & refl & refl & refl & refl & refl & refl & refl & refl & tt
 
 -- THE CASES OF THE LARGEST PRIME
@@ -289,7 +290,7 @@ largestTable =
     ∷ []
 
 largest-right : All (λ r. r .is ≡ r .should) largestTable
-unfolding tab powF first quotientVanishing reduced generator point multiplier tag interpolation permutation gate rowN rowD rowZ polyN polyD polyL gatePart stepPart startPart polyF quotient prepared rowsFrom pointVerdict brokenGate brokenCopy zeroFactor
+unfolding tab powF first quotientVanishing reduced generator point multiplier tag interpolation lentWitness permutation gate rowN rowD rowZ polyN polyD polyL gatePart stepPart startPart polyF quotient prepared rowsFrom pointVerdict brokenGate brokenCopy zeroFactor
 largest-right =
     (rw root-4)
     & refl

@@ -19,8 +19,8 @@ use Rattle.algebra.specs.PolynomialLaws.{append-elements, reduced-elements}
 use Rattle.transform.specs.Transform.{interpolation}
 use Rattle.transform.specs.Interpolation.{interpolation-elements}
 use Rattle.circuit.specs.Circuit.{Circuit}
-use Rattle.circuit.specs.Reasons.{preparedLength, quotientLength, transcriptLength}
-use Rattle.protocol.specs.Protocol.{fOf, polyN, polyD, gatePart, stepPart, polyF, quotient, preparedPoly, prepared, wiresOf, transcript, proved, part, pointF}
+use Rattle.circuit.specs.Buffers.{preparedLength, wireLength, zLength, quotientLength, transcriptLength, zStart, preparedPart, wirePart, zPart, tPart}
+use Rattle.protocol.specs.Protocol.{fOf, polyN, polyD, gatePart, stepPart, polyF, quotient, preparedPoly, prepared, wiresOf, transcript, proved, pointF}
 use Rattle.protocol.specs.Lengths.{interpolation-length}
 
 -- LISTS END TO END
@@ -42,7 +42,7 @@ before-rest n f (suc c) r h =
     ∙ before-rest n (λ s. f (suc s)) c r (λ s l. h (suc s) (omega arith))
 
 before-part : (n : ℕ) (f : ℕ → List ℕ) (c : ℕ) (r : List ℕ) → ((s : ℕ) → s < c → length (f s) ≡ n) → (s : ℕ) → s < c
-    → part n s (laidBefore f c r) ≡ f s
+    → take n (drop (s * n) (laidBefore f c r)) ≡ f s
 before-part n f zero r h s l = absurd (omega arith)
 before-part n f (suc c) r h zero l = rw (zero-mul n) (take-at (f 0) (laidBefore (λ s. f (suc s)) c r) n (h 0 (omega arith)))
 before-part n f (suc c) r h (suc s) l =
@@ -62,9 +62,9 @@ module _ (p n : ℕ) (C : Circuit) where
   unfolding prepared
   prepared-before = ap (laidBefore (preparedPoly p n C) 7) (sym (append-nil (preparedPoly p n C 7)))
 
-  pub prepared-part : (s : ℕ) → s < 8 → part n s (prepared p n C) ≡ preparedPoly p n C s
+  pub prepared-part : (s : ℕ) → s < 8 → preparedPart n s (prepared p n C) ≡ preparedPoly p n C s
   prepared-part s l =
-      ap (part n s) prepared-before
+      ap (preparedPart n s) prepared-before
       ∙ before-part n (preparedPoly p n C) 8 [] (λ s l. interpolation-length p n _) s l
 
   pub prepared-elements : 0 < p → Elements p (preparedLength n) (prepared p n C)
@@ -75,25 +75,23 @@ module _ (p n : ℕ) (C : Circuit) where
 
 -- THE TRANSCRIPT
 
-module _ (n : ℕ) (wire : ℕ → List ℕ) (z t : List ℕ) (lw : (c : ℕ) → c < 3 → length (wire c) ≡ n) where
-  pub wire-part : (c : ℕ) → c < 3 → part n c (transcript wire z t) ≡ wire c
-  wire-part c l = before-part n wire 3 (z ++ t) lw c l
+module _ (n : ℕ) (wire : ℕ → List ℕ) (z t : List ℕ) (lw : (c : ℕ) → c < 3 → length (wire c) ≡ wireLength n) where
+  pub wire-part : (c : ℕ) → c < 3 → wirePart n c (transcript wire z t) ≡ wire c
+  wire-part c l = before-part (wireLength n) wire 3 (z ++ t) lw c l
 
-  pub z-part : length z ≡ n → part n 3 (transcript wire z t) ≡ z
-  z-part h = ap (take n) (before-rest n wire 3 (z ++ t) lw) ∙ take-at z t n h
+  pub z-part : length z ≡ zLength n → zPart n (transcript wire z t) ≡ z
+  z-part h = ap (take (zLength n)) (before-rest (wireLength n) wire 3 (z ++ t) lw) ∙ take-at z t (zLength n) h
 
-  pub t-part : length z ≡ n → drop (4 * n) (transcript wire z t) ≡ t
+  pub t-part : length z ≡ zLength n → tPart n (transcript wire z t) ≡ t
   t-part h =
-      let e : 4 * n ≡ 3 * n + n = omega arith in
-      ap (λ (m : ℕ). drop m (transcript wire z t)) e
-      ∙ sym (drop-drop n (3 * n) (transcript wire z t))
-      ∙ ap (drop n) (before-rest n wire 3 (z ++ t) lw) ∙ drop-at z t n h
+      sym (drop-drop (zLength n) (zStart n) (transcript wire z t))
+      ∙ ap (drop (zLength n)) (before-rest (wireLength n) wire 3 (z ++ t) lw) ∙ drop-at z t (zLength n) h
 
 pub proved-elements : (p n : ℕ) (C : Circuit) (x v : ℕ → ℕ) (beta gamma alpha : ℕ) → 0 < p → 1 ≤ n
     → Elements p (transcriptLength n) (proved p n C x v beta gamma alpha)
 unfolding quotient
 proved-elements p n C x v beta gamma alpha z h =
-    let count : 3 * n + (n + quotientLength n) ≡ 7 * n - 3 = omega arith in
+    let count : zStart n + (zLength n + quotientLength n) ≡ transcriptLength n = omega arith in
     subst (λ (m : ℕ). Elements p m (proved p n C x v beta gamma alpha)) count
     (before-elements (wiresOf p n v) 3 (λ c. interpolation-elements n _ z)
     (append-elements (interpolation-elements n _ z) (reduced-elements (quotientLength n) _ z)))
@@ -108,7 +106,7 @@ unfolding polyF gatePart stepPart polyN polyD
 F-ext p n pre pre′ wire wire′ x z beta gamma alpha h k =
     rw (h 0 (omega arith), h 1 (omega arith), h 2 (omega arith), h 3 (omega arith), h 4 (omega arith), h 5 (omega arith), h 6 (omega arith), h 7 (omega arith), k 0 (omega arith), k 1 (omega arith), k 2 (omega arith))
 
-pub lent-F : (p n : ℕ) (C : Circuit) (x : ℕ → ℕ) (wire : ℕ → List ℕ) (z t : List ℕ) → ((c : ℕ) → c < 3 → length (wire c) ≡ n) → length z ≡ n
+pub lent-F : (p n : ℕ) (C : Circuit) (x : ℕ → ℕ) (wire : ℕ → List ℕ) (z t : List ℕ) → ((c : ℕ) → c < 3 → length (wire c) ≡ wireLength n) → length z ≡ zLength n
     → (beta gamma alpha : ℕ)
     → pointF p n (prepared p n C) x (transcript wire z t) beta gamma alpha
     ≡ fOf p n C x wire z beta gamma alpha

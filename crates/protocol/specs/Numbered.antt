@@ -10,16 +10,16 @@
 use mathlib.Core.Path.{_≡_, sym, ap, subst, _∙_}
 use mathlib.Core.Bool.{true}
 use mathlib.Core.List.{List, [], append-nil}
-use Prim.Native.Nat.{ℕ, zero, suc, _+_, _*_, _<_}
+use Prim.Native.Nat.{ℕ, zero, suc, _+_, _<_}
 use native.Mathlib.Omega.{arith}
-use lib.ListN.{length, take, drop}
+use lib.ListN.{length, take}
 use lib.Seq.{take-at}
 use denote.Ref.{RefT, now}
 use borrow.Author.Tests.{le-leb, eq-eqb}
 use Rattle.circuit.specs.Circuit.{Circuit}
-use Rattle.circuit.specs.Reasons.{preparedLength, quotientLength, transcriptLength}
-use Rattle.circuit.specs.Promises.{anyRows, Part, numberedPart, polynomialPart, Hands}
-use Rattle.protocol.specs.Protocol.{preparedPoly, prepared, transcript, part}
+use Rattle.circuit.specs.Buffers.{preparedLength, wireLength, zLength, quotientLength, transcriptLength, preparedPart, wirePart, zPart, tPart}
+use Rattle.circuit.specs.Promises.{anyRows, Part, preparedPlace, numberedPart, polynomialPart, Hands}
+use Rattle.protocol.specs.Protocol.{preparedPoly, prepared, transcript}
 use Rattle.protocol.specs.Layout.{prepared-part, wire-part, z-part, t-part}
 
 -- r is the part that is handed back of the buffers pre and lent
@@ -33,22 +33,22 @@ module _ (n : ℕ) (pre lent r : RefT (List ℕ)) where
   pub numbered-prepared : (p : ℕ) (C : Circuit) → now pre ≡ prepared p n C → (k : ℕ) → k < 8 → Hands (numberedPart n k pre lent) r
       → now r ≡ preparedPoly p n C k
   numbered-prepared p C e k l H =
-      let is : numberedPart n k pre lent ≡ record { buffer = pre; start = k * n; count = n } = rw (le-leb k 7 (omega arith)) in
-      subst (λ (P : Part). Hands P r) is H .numbers ∙ ap (part n k) e ∙ prepared-part p n C k l
+      let is : numberedPart n k pre lent ≡ preparedPlace n k pre = rw (le-leb k 7 (omega arith)) in
+      subst (λ (P : Part). Hands P r) is H .numbers ∙ ap (preparedPart n k) e ∙ prepared-part p n C k l
 
-  module _ (wire : ℕ → List ℕ) (z t : List ℕ) (lw : (c : ℕ) → c < 3 → length (wire c) ≡ n) (e : now lent ≡ transcript wire z t) where
+  module _ (wire : ℕ → List ℕ) (z t : List ℕ) (lw : (c : ℕ) → c < 3 → length (wire c) ≡ wireLength n) (e : now lent ≡ transcript wire z t) where
     pub numbered-wire : (c : ℕ) → c < 3 → Hands (numberedPart n (8 + c) pre lent) r → now r ≡ wire c
-    numbered-wire zero l H = H .numbers ∙ ap (part n 0) e ∙ wire-part n wire z t lw 0 l
-    numbered-wire (suc zero) l H = H .numbers ∙ ap (part n 1) e ∙ wire-part n wire z t lw 1 l
-    numbered-wire (suc (suc zero)) l H = H .numbers ∙ ap (part n 2) e ∙ wire-part n wire z t lw 2 l
+    numbered-wire zero l H = H .numbers ∙ ap (wirePart n 0) e ∙ wire-part n wire z t lw 0 l
+    numbered-wire (suc zero) l H = H .numbers ∙ ap (wirePart n 1) e ∙ wire-part n wire z t lw 1 l
+    numbered-wire (suc (suc zero)) l H = H .numbers ∙ ap (wirePart n 2) e ∙ wire-part n wire z t lw 2 l
     numbered-wire (suc (suc (suc c))) l H = absurd (omega arith)
 
-    pub numbered-z : length z ≡ n → Hands (numberedPart n 11 pre lent) r → now r ≡ z
-    numbered-z lz H = H .numbers ∙ ap (part n 3) e ∙ z-part n wire z t lw lz
+    pub numbered-z : length z ≡ zLength n → Hands (numberedPart n 11 pre lent) r → now r ≡ z
+    numbered-z lz H = H .numbers ∙ ap (zPart n) e ∙ z-part n wire z t lw lz
 
-    pub numbered-t : length z ≡ n → length t ≡ quotientLength n → Hands (numberedPart n 12 pre lent) r → now r ≡ t
+    pub numbered-t : length z ≡ zLength n → length t ≡ quotientLength n → Hands (numberedPart n 12 pre lent) r → now r ≡ t
     numbered-t lz lt H =
         H .numbers
-        ∙ ap (λ (xs : List ℕ). take (quotientLength n) (drop (4 * n) xs)) e
+        ∙ ap (λ (xs : List ℕ). take (quotientLength n) (tPart n xs)) e
         ∙ ap (take (quotientLength n)) (t-part n wire z t lw lz ∙ sym (append-nil t))
         ∙ take-at t [] (quotientLength n) lt

@@ -11,12 +11,13 @@ use Prim.Native.Nat.{ℕ, suc, _+_, _*_, _^_, _%_, _<_}
 use native.Mathlib.Nat.{mul-comm}
 use native.Mathlib.Omega.{arith}
 use lib.Dec.{eqb}
-use lib.ListN.{length, drop}
+use lib.ListN.{length}
 use borrow.Author.Tests.{eqb-true, eq-eqb}
 use Rattle.algebra.specs.Polynomial.{eval, timesVanishing}
 use Rattle.algebra.specs.Congruence.{Cong, cong, _⨾_}
 use Rattle.algebra.specs.Division.{eval-vanishing}
 use Rattle.circuit.specs.Circuit.{Circuit}
+use Rattle.circuit.specs.Buffers.{tPart}
 use Rattle.protocol.specs.Protocol.{fOf, prepared, transcript, accept, reject, pointF, pointVerdict}
 use Rattle.protocol.specs.Layout.{t-part, lent-F}
 
@@ -30,7 +31,7 @@ module _ (q n : ℕ) (C : Circuit) (x : ℕ → ℕ) (wire : ℕ → List ℕ) (
   left = eval (pointF (suc q) n (prepared (suc q) n C) x (transcript wire z t) beta gamma alpha) zeta
 
   abbrev right : ℕ
-  right = eval (drop (4 * n) (transcript wire z t)) zeta * (zeta ^ n + q)
+  right = eval (tPart n (transcript wire z t)) zeta * (zeta ^ n + q)
 
   left-is : left ≡ eval (fOf (suc q) n C x wire z beta gamma alpha) zeta
   left-is = ap (λ (f : List ℕ). eval f zeta) (lent-F p n C x wire z t lw lz beta gamma alpha)

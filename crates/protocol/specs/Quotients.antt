@@ -20,7 +20,7 @@ use Rattle.algebra.specs.Same.{same-add, same-scale, same-shift}
 use Rattle.field.specs.Fields.{point}
 use Rattle.field.specs.Domain.{Domain}
 use Rattle.transform.specs.Interpolation.{rows-positive}
-use Rattle.circuit.specs.Reasons.{quotientLength}
+use Rattle.circuit.specs.Buffers.{quotientLength}
 use Rattle.protocol.specs.Protocol.{quotient}
 use Rattle.protocol.specs.Domains.{points-distinct, zeros}
 

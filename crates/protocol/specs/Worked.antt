@@ -37,13 +37,13 @@ abbrev pub publics : ℕ → ℕ
 publics = lentPublic []
 
 abbrev pub witness : ℕ → ℕ
-witness = lentWitness (2 ∷ 6 ∷ 3 ∷ 6 ∷ 6 ∷ 12 ∷ [])
+witness = lentWitness 2 (2 ∷ 6 ∷ 3 ∷ 6 ∷ 6 ∷ 12 ∷ [])
 
 abbrev pub lastIs11 : ℕ → ℕ
-lastIs11 = lentWitness (2 ∷ 6 ∷ 3 ∷ 6 ∷ 6 ∷ 11 ∷ [])
+lastIs11 = lentWitness 2 (2 ∷ 6 ∷ 3 ∷ 6 ∷ 6 ∷ 11 ∷ [])
 
 abbrev pub rowIs5-7-12 : ℕ → ℕ
-rowIs5-7-12 = lentWitness (2 ∷ 5 ∷ 3 ∷ 7 ∷ 6 ∷ 12 ∷ [])
+rowIs5-7-12 = lentWitness 2 (2 ∷ 5 ∷ 3 ∷ 7 ∷ 6 ∷ 12 ∷ [])
 
 -- F and t at beta 1, gamma 1, alpha 2
 abbrev F : List ℕ
@@ -103,7 +103,7 @@ pub record Worked : Type 0 where
   pub no-z : (z : ℕ → ℕ) → rowVerdict 17 2 circuit publics rowIs5-7-12 z 1 1 ≢ pass
 
 right : All (λ r. r .is ≡ r .should) table
-unfolding tab powF first inverse quotientVanishing reduced generator root point multiplier tag interpolation permutation gate rowN rowD rowZ polyN polyD polyL gatePart stepPart startPart polyF quotient prepared rowsFrom pointVerdict brokenGate brokenCopy zeroFactor
+unfolding tab powF first inverse quotientVanishing reduced generator root point multiplier tag interpolation lentWitness permutation gate rowN rowD rowZ polyN polyD polyL gatePart stepPart startPart polyF quotient prepared rowsFrom pointVerdict brokenGate brokenCopy zeroFactor
 right = refl & refl & refl & refl & refl & refl & refl & refl & refl & refl & refl & refl & refl & refl & refl & refl & refl & refl & refl & refl & tt
 
 -- N is 6, 15 and D is 15, 0: the two steps ask for z(1) × 15 to be 6, and to be 0
@@ -115,7 +115,7 @@ byTests start step0 step1 =
     ]
 
 no-z : (z : ℕ → ℕ) → rowVerdict 17 2 circuit publics rowIs5-7-12 z 1 1 ≢ pass
-unfolding tab powF first inverse generator root point multiplier tag permutation gate rowN rowD rowsFrom
+unfolding tab powF first inverse generator root point multiplier tag lentWitness permutation gate rowN rowD rowsFrom
 no-z z e = go (eqb (z 0) 1) (eqb (z 0 * 6 % 17) (z 1 * 15 % 17)) (eqb (z 1 * 15 % 17) (z 0 * 0 % 17)) refl refl refl e
   where
     go : (start step0 step1 : Bool) → eqb (z 0) 1 ≡ start → eqb (z 0 * 6 % 17) (z 1 * 15 % 17) ≡ step0 → eqb (z 1 * 15 % 17) (z 0 * 0 % 17) ≡ step1

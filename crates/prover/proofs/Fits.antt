@@ -15,7 +15,7 @@ use lib.ListN.{length, getD, take, drop, length-take, length-drop, length-append
 use lib.Seq.{take-at}
 use Rattle.field.specs.Primes.{rows-power}
 use Rattle.circuit.specs.Circuit.{Circuit, lentCircuit, lentPublic, lentWitness}
-use Rattle.circuit.specs.Reasons.{quotientLength, transcriptLength}
+use Rattle.circuit.specs.Buffers.{quotientLength, transcriptLength}
 use Rattle.protocol.specs.Protocol.{quotient}
 use Rattle.protocol.specs.Lengths.{interpolation-length}
 use Rattle.laying.specs.Rows.{laidRows, laid-whole}

@@ -17,7 +17,7 @@ use Rattle.algebra.specs.Polynomial.{Elements}
 use Rattle.field.specs.Fields.{Admissible}
 use Rattle.transform.specs.Transform.{scratchLength}
 use Rattle.circuit.specs.Circuit.{Circuit, lentCircuit, lentPublic}
-use Rattle.circuit.specs.Reasons.{transcriptLength}
+use Rattle.circuit.specs.Buffers.{transcriptLength}
 use Rattle.circuit.specs.RightlyLent.{RightCircuit}
 use Rattle.protocol.specs.Protocol.{prepared, pointF, fOf, wiresOf, zOf, transcript}
 use Rattle.protocol.specs.Layout.{lent-F}

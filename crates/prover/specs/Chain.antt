@@ -25,7 +25,7 @@ use Rattle.field.specs.Reasons.{isAccepted}
 use Rattle.transform.specs.Transform.{evaluation, scratchLength}
 use Rattle.transform.specs.Interpolation.{interpolation-one}
 use Rattle.circuit.specs.Circuit.{Circuit, lentCircuit, lentPublic, lentWitness}
-use Rattle.circuit.specs.Reasons.{preparedLength}
+use Rattle.circuit.specs.Buffers.{preparedLength}
 use Rattle.circuit.specs.RightlyLent.{prepare-taken}
 use Rattle.protocol.specs.Protocol.{rowZ, wiresOf, zOf, tOf, part, prepared}
 use Rattle.protocol.specs.Layout.{z-part}

@@ -8,7 +8,7 @@ ghost use lib.ListN.{length, getD, take, drop, replicate};
 ghost use Rattle.algebra.specs.Polynomial.{reduced};
 ghost use Rattle.transform.specs.Transform.{scratchLength};
 ghost use Rattle.circuit.specs.Circuit.{lentCircuit, lentWitness};
-ghost use Rattle.circuit.specs.Reasons.{transcriptLength};
+ghost use Rattle.circuit.specs.Buffers.{transcriptLength};
 ghost use Rattle.protocol.specs.Protocol.{quotient};
 ghost use Rattle.laying.specs.Rows.{laidRows};
 ghost use Rattle.prover.specs.Promises.{provedFrom, Proves};

@@ -9,7 +9,7 @@ use mathlib.Core.List.{List}
 use Prim.Native.Nat.{ℕ, _*_}
 use lib.ListN.{length}
 use Rattle.field.specs.Reasons.{answerOf, isAccepted}
-use Rattle.circuit.specs.Reasons.{selectorsLength, labelsLength, witnessLength}
+use Rattle.circuit.specs.Buffers.{selectorsLength, labelsLength, witnessLength}
 use Rattle.sheet.specs.declared.SheetAnswer.{SheetAnswer}
 use Rattle.sheet.specs.Sheet.{sheetRows, sheetP, sheetN, sheetL, onSelectors, onLabels, onWitness, onPublics, onChallenges, padded, sheetReasons}
 

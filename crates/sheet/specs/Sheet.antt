@@ -32,7 +32,8 @@ use Rattle.algebra.specs.Modular.{first}
 use Rattle.field.specs.declared.Answer.{Answer}
 use Rattle.field.specs.Fields.{isRows}
 use Rattle.field.specs.Reasons.{Reason, answerOf, badField, badLength, badElement}
-use Rattle.circuit.specs.Reasons.{selectorsLength, labelsLength, witnessLength, badPublics, badLabel}
+use Rattle.circuit.specs.Buffers.{selectorsLength, labelsLength, witnessLength}
+use Rattle.circuit.specs.Reasons.{badPublics, badLabel}
 use Rattle.text.specs.Text.{numberAt, fieldAt, isLineAt}
 
 abbrev pub sheetRows : ℕ

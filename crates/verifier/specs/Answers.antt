@@ -26,7 +26,8 @@ use Rattle.field.specs.Reasons.{answerOf, isAccepted}
 use Rattle.field.specs.declared.Answer.{Answer}
 use Rattle.transform.specs.Transform.{valueAt, evaluation, scratchLength}
 use Rattle.circuit.specs.Circuit.{Circuit, position, gate, Satisfies, lentCircuit, lentPublic, lentWitness}
-use Rattle.circuit.specs.Reasons.{witnessLength, quotientLength, rowsReasons}
+use Rattle.circuit.specs.Buffers.{witnessLength, quotientLength}
+use Rattle.circuit.specs.Reasons.{rowsReasons}
 use Rattle.circuit.specs.RightlyLent.{RightCircuit, RightPublics, rows-taken, point-taken}
 use Rattle.protocol.specs.Protocol.{RowVerdict, pass, fails, rowVerdict, rowN, rowD, rowZ, PointVerdict, accept, reject, prepared, transcript, proved, zeroFactor}
 use Rattle.protocol.specs.Rows.{RowHolds, passed-row, rows-pass, rowZ-lt}

@@ -23,7 +23,7 @@ use Rattle.field.specs.Reasons.{answerOf}
 use Rattle.field.specs.ReasonLaws.{none-applies, taken, length-none, elements-of, elements-none}
 use Rattle.transform.specs.Transform.{scratchLength}
 use Rattle.circuit.specs.Circuit.{Circuit, lentCircuit, lentPublic, lentWitness, Satisfies}
-use Rattle.circuit.specs.Reasons.{witnessLength, transcriptLength}
+use Rattle.circuit.specs.Buffers.{witnessLength, transcriptLength}
 use Rattle.circuit.specs.RightlyLent.{RightCircuit, RightPublics}
 use Rattle.protocol.specs.Protocol.{brokenGate, brokenCopy, zeroFactor, proveReasons}
 use Rattle.protocol.specs.Conditions.{satisfied, unbroken}

@@ -31,8 +31,7 @@ interpolate-in-place-requires : tie.Need-interpolate-in-place-requires
 interpolate-in-place-requires c κs =
     let s = c .before .before .before .before .before .before .before .before .before .before .before in
     record {
-      admissible = s .pre .0 .admissible;
-      points = c .before .before .before .before .before .before .before .domain-points .ensures .1;
+      domain-lent = record { admissible = s .pre .0 .admissible; points = c .before .before .before .before .before .before .before .domain-points .ensures .1 };
       elements = row-elements _ _ (s .args .publics .now) _ _ (c .before .before .before .before .before .public-rows .ensures) (s .pre .1 .0) (omega (arith, field-prime _ (s .pre .0 .admissible .one-of-three) .two)) (s .pre .0 .elements);
       spare = s .pre .1 .1;
     }

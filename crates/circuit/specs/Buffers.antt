@@ -1,0 +1,73 @@
+-- The lent buffers: how many numbers each has for n rows, and where the polynomials stand in a prepared circuit and in a transcript.
+-- (The scratch's length, which the transforms have too, stands in the crate `transform`.)
+--
+-- LENGTHS
+-- selectorsLength, labelsLength, witnessLength   of the selectors, the labels and the witness
+-- preparedLength                        of a prepared circuit: eight polynomials of n coefficients
+-- wireLength, zLength, quotientLength   the coefficients of a wire, of z and of t
+-- transcriptLength                      of a transcript: 7n - 3 (`transcript-long` of Parts)
+-- PLACES
+-- preparedStart n s                     where polynomial s of a prepared circuit starts
+-- wireStart n c, zStart n, tStart n     where the wire of column c, z and t start in a transcript
+-- PARTS
+-- preparedPart n s l                    polynomial s of a prepared circuit
+-- wirePart n c l, zPart n l, tPart n l  the wire of column c, z and t of a transcript; t is what stands behind z
+--
+-- Assumes nothing.
+use mathlib.Core.List.{List}
+use Prim.Native.Nat.{ℕ, _+_, _*_, _-_}
+use lib.ListN.{take, drop}
+
+-- LENGTHS
+
+abbrev pub selectorsLength : ℕ → ℕ
+selectorsLength n = 5 * n
+
+abbrev pub labelsLength : ℕ → ℕ
+labelsLength n = 3 * n
+
+abbrev pub witnessLength : ℕ → ℕ
+witnessLength n = 3 * n
+
+abbrev pub preparedLength : ℕ → ℕ
+preparedLength n = 8 * n
+
+abbrev pub wireLength : ℕ → ℕ
+wireLength n = n
+
+abbrev pub zLength : ℕ → ℕ
+zLength n = n
+
+abbrev pub quotientLength : ℕ → ℕ
+quotientLength n = 3 * n - 3
+
+-- PLACES
+
+abbrev pub preparedStart : ℕ → ℕ → ℕ
+preparedStart n s = s * n
+
+abbrev pub wireStart : ℕ → ℕ → ℕ
+wireStart n c = c * wireLength n
+
+abbrev pub zStart : ℕ → ℕ
+zStart n = 3 * wireLength n
+
+abbrev pub tStart : ℕ → ℕ
+tStart n = zStart n + zLength n
+
+abbrev pub transcriptLength : ℕ → ℕ
+transcriptLength n = tStart n + quotientLength n
+
+-- PARTS
+
+abbrev pub preparedPart : ℕ → ℕ → List ℕ → List ℕ
+preparedPart n s l = take n (drop (preparedStart n s) l)
+
+abbrev pub wirePart : ℕ → ℕ → List ℕ → List ℕ
+wirePart n c l = take (wireLength n) (drop (wireStart n c) l)
+
+abbrev pub zPart : ℕ → List ℕ → List ℕ
+zPart n l = take (zLength n) (drop (zStart n) l)
+
+abbrev pub tPart : ℕ → List ℕ → List ℕ
+tPart n l = drop (tStart n) l

@@ -1,0 +1,98 @@
+// How many numbers the lent buffers have for n rows, and where the polynomials start in them. (The scratch's length stands in `transform`.)
+ghost use mathlib.Core.Path.{_≡_};
+ghost use Prim.Native.Nat.{_<_};
+ghost use Rattle.circuit.specs.Buffers.{selectorsLength, labelsLength, witnessLength, preparedLength, wireLength, zLength, quotientLength, transcriptLength, preparedStart, wireStart, zStart, tStart};
+
+pub fn selectors_length(n: usize) -> usize
+    requires { ⌜ n < 4294967296 ⌝ }
+    ensures { λ r. ⌜ r ≡ selectorsLength n ⌝ }
+{
+    5 * n
+}
+
+pub fn labels_length(n: usize) -> usize
+    requires { ⌜ n < 4294967296 ⌝ }
+    ensures { λ r. ⌜ r ≡ labelsLength n ⌝ }
+{
+    3 * n
+}
+
+pub fn witness_length(n: usize) -> usize
+    requires { ⌜ n < 4294967296 ⌝ }
+    ensures { λ r. ⌜ r ≡ witnessLength n ⌝ }
+{
+    3 * n
+}
+
+pub fn prepared_length(n: usize) -> usize
+    requires { ⌜ n < 4294967296 ⌝ }
+    ensures { λ r. ⌜ r ≡ preparedLength n ⌝ }
+{
+    8 * n
+}
+
+// The coefficients of a wire.
+pub fn wire_length(n: usize) -> usize
+    requires { ⌜ n < 4294967296 ⌝ }
+    ensures { λ r. ⌜ r ≡ wireLength n ⌝ }
+{
+    n
+}
+
+// The coefficients of z.
+pub fn z_length(n: usize) -> usize
+    requires { ⌜ n < 4294967296 ⌝ }
+    ensures { λ r. ⌜ r ≡ zLength n ⌝ }
+{
+    n
+}
+
+// The coefficients of t: 3n - 3. No call works on 0 rows, but a length is asked for before n is known to be right.
+pub fn quotient_length(n: usize) -> usize
+    requires { ⌜ n < 4294967296 ⌝ }
+    ensures { λ r. ⌜ r ≡ quotientLength n ⌝ }
+{
+    if n == 0 {
+        return 0;
+    }
+    3 * n - 3
+}
+
+// Where polynomial s of a prepared circuit starts.
+pub fn prepared_start(n: usize, s: usize) -> usize
+    requires { ⌜ (n < 4294967296) × (s < 8) ⌝ }
+    ensures { λ r. ⌜ r ≡ preparedStart n s ⌝ }
+{
+    s * n
+}
+
+// Where the wire of a column starts in a transcript.
+pub fn wire_start(n: usize, column: usize) -> usize
+    requires { ⌜ (n < 4294967296) × (column < 3) ⌝ }
+    ensures { λ r. ⌜ r ≡ wireStart n column ⌝ }
+{
+    column * wire_length(n)
+}
+
+// Where z starts in a transcript.
+pub fn z_start(n: usize) -> usize
+    requires { ⌜ n < 4294967296 ⌝ }
+    ensures { λ r. ⌜ r ≡ zStart n ⌝ }
+{
+    3 * wire_length(n)
+}
+
+// Where t starts in a transcript.
+pub fn t_start(n: usize) -> usize
+    requires { ⌜ n < 4294967296 ⌝ }
+    ensures { λ r. ⌜ r ≡ tStart n ⌝ }
+{
+    z_start(n) + z_length(n)
+}
+
+pub fn transcript_length(n: usize) -> usize
+    requires { ⌜ n < 4294967296 ⌝ }
+    ensures { λ r. ⌜ r ≡ transcriptLength n ⌝ }
+{
+    t_start(n) + quotient_length(n)
+}

@@ -1,0 +1,27 @@
+// The witness, read in one place.
+ghost use mathlib.Core.Path.{_≡_};
+ghost use Prim.Native.Nat.{_*_, _<_, _≤_};
+ghost use lib.ListN.{length};
+ghost use Rattle.algebra.specs.Lists.{tab};
+ghost use Rattle.circuit.specs.Circuit.{position, lentWitness};
+ghost use Rattle.circuit.specs.Buffers.{witnessLength};
+
+// The wire value of a column and a row, of n rows: the witness is lent column after column.
+pub fn wire_value(n: usize, witness: &[u32], column: usize, row: usize) -> u32
+    requires { ⌜ (n ≤ 1024) × (column < 3) × (row < n) × (length (now witness) ≡ witnessLength n) ⌝ }
+    ensures { λ r. ⌜ r ≡ lentWitness n (now (witness .entry)) (position n column row) ⌝ }
+{
+    witness[column * n + row]
+}
+
+// The wire values of the 3n positions, in their order.
+pub fn wire_values(n: usize, witness: &[u32], out: &mut [u32])
+    requires { ⌜ (n ≤ 1024) × (length (now witness) ≡ witnessLength n) × (length (now out) ≡ 3 * n) ⌝ }
+    ensures { λ _. ⌜ now (out .exit) ≡ tab (lentWitness n (now (witness .entry))) (3 * n) ⌝ }
+{
+    let mut k = 0;
+    while k < out.len() {
+        out[k] = wire_value(n, witness, k / n, k % n);
+        k += 1;
+    }
+}
