@@ -5,6 +5,8 @@
 -- shape-numbers, lent-numbers   no such reason has number 0
 -- shaped, lent-of           an answer of these reasons with number 0 means that Shape, or Lent, holds
 -- lent-taken                where Lent holds, none of them applies
+-- lent-refused, lent-later, lent-known   a call that begins with these reasons, `is` being the table that its code has: it is turned down by them; it goes on to
+--                           the reasons behind them; and what it knows then
 -- lengths-same              tables of one length that differ nowhere are equal
 -- lengths-none              equal tables are no reason
 --
@@ -12,7 +14,7 @@
 use mathlib.Core.Path.{_≡_, refl, sym, ap, _∙_}
 use mathlib.Core.Logic.{_≢_}
 use mathlib.Core.Bool.{Bool, false, not, _||_}
-use mathlib.Core.List.{List, [], _∷_}
+use mathlib.Core.List.{List, [], _∷_, _++_}
 use Prim.Native.Nat.{ℕ, _≤_}
 use native.Mathlib.Omega.{arith}
 use lib.Dec.{eqb, ltb}
@@ -24,8 +26,8 @@ use Rattle.algebra.specs.Search.{first-is, first-none, both-false}
 use Rattle.field.specs.declared.Answer.{Answer}
 use Rattle.field.specs.Fields.{isField, isRows, greatestRows, Admissible}
 use Rattle.field.specs.Primes.{rows-power}
-use Rattle.field.specs.Reasons.{answerOf, shapeReasons, firstOther, badLengths, lentReasons}
-use Rattle.field.specs.ReasonLaws.{none-applies, taken, both-none, both-taken}
+use Rattle.field.specs.Reasons.{Reason, answerOf, shapeReasons, firstOther, badLengths, lentReasons}
+use Rattle.field.specs.ReasonLaws.{none-applies, taken, both-none, both-taken, refused-first, refused-later}
 
 pub record Shape (p n l most : ℕ) : Type 0 where
   pub admissible : Admissible p n
@@ -96,3 +98,16 @@ lent-taken {p} {n} {l} {long} {due} L =
     both-taken (shapeReasons p n l (greatestRows p)) (badLengths long due ∷ []) (shape-numbers p n l (greatestRows p))
     (shape-taken p n l (L .admissible) (L .publics-few))
     (taken (badLengths long due ∷ []) (lengths-none (L .lengths), tt))
+
+module _ (p n l : ℕ) (long due : List ℕ) (rest : List Reason) {is : List ℕ} (e : is ≡ due) {a : Answer} (h : a ≡ answerOf (lentReasons p n l long is)) where
+  decided : a ≡ answerOf (lentReasons p n l long due)
+  decided = h ∙ ap (λ (d : List ℕ). answerOf (lentReasons p n l long d)) e
+
+  pub lent-refused : (a .number ≡ 0 → ⊥) → a ≡ answerOf (lentReasons p n l long due ++ rest)
+  lent-refused u = refused-first (lentReasons p n l long due) rest (lent-numbers p n l long due) a decided u
+
+  pub lent-later : a .number ≡ 0 → {b : Answer} → b ≡ answerOf rest → b ≡ answerOf (lentReasons p n l long due ++ rest)
+  lent-later z {b} u = refused-later (lentReasons p n l long due) rest (lent-numbers p n l long due) a b decided z u
+
+  pub lent-known : a .number ≡ 0 → length long ≡ length due → Lent p n l long due
+  lent-known z m = lent-of p n l long due m (sym (ap (λ (b : Answer). b .number) decided) ∙ z)

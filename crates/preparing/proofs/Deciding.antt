@@ -3,25 +3,24 @@
 -- checked   where no reason of preparing applies, its numbers and buffers are right
 --
 -- Assumes nothing.
-use mathlib.Core.Path.{_≡_}
-use mathlib.Core.List.{List}
-use Prim.Native.Nat.{ℕ, _*_}
-use native.Mathlib.Omega.{arith}
-use borrow.Author.Tests.{not-false, eqb-true}
+use mathlib.Core.Path.{_≡_, refl}
+use mathlib.Core.List.{List, [], _∷_}
+use Prim.Native.Nat.{ℕ}
+use lib.ListN.{length}
 use Rattle.field.specs.Reasons.{answerOf}
-use Rattle.field.specs.ReasonLaws.{none-applies, elements-of}
-use Rattle.circuit.specs.Reasons.{prepareReasons}
+use Rattle.circuit.specs.Reasons.{prepareDue, prepareReasons}
+use Rattle.circuit.specs.RightlyLent.{lent-numbers-of}
 use Rattle.preparing.specs.Promises.{Checked}
 
 pub checked : (p n : ℕ) (selectors labels written scratch : List ℕ) → answerOf (prepareReasons p n selectors labels written scratch) .number ≡ 0
     → Checked p n selectors labels written scratch
 checked p n selectors labels written scratch e =
-    let none = none-applies (prepareReasons p n selectors labels written scratch)
-    (omega arith, (omega arith, (omega arith, (omega arith, (omega arith, (omega arith, (omega arith, (omega arith, tt)))))))) e in
+    let all = lent-numbers-of p n 0 (length selectors ∷ length labels ∷ length written ∷ length scratch ∷ []) (prepareDue n) selectors labels refl e in
+    let lent = all .0 in
     record {
-      admissible = record { one-of-three = not-false _ (none .0); rows = not-false _ (none .1 .0) };
-      elements = record { long = eqb-true _ _ (not-false _ (none .1 .1 .0)); below = elements-of p selectors (none .1 .1 .1 .1 .1 .1 .0) };
-      labelled = record { long = eqb-true _ _ (not-false _ (none .1 .1 .1 .0)); below = elements-of (3 * n) labels (none .1 .1 .1 .1 .1 .1 .1 .0) };
-      written-length = eqb-true _ _ (not-false _ (none .1 .1 .1 .1 .0));
-      scratch-length = eqb-true _ _ (not-false _ (none .1 .1 .1 .1 .1 .0));
+      admissible = lent .admissible;
+      elements = record { long = cc (lent .lengths); below = all .1 .0 };
+      labelled = record { long = cc (lent .lengths); below = all .1 .1 };
+      written-length = cc (lent .lengths);
+      scratch-length = cc (lent .lengths);
     }

@@ -7,10 +7,10 @@
 use mathlib.Core.Path.{_≡_, ap, subst, _∙_}
 use mathlib.Core.List.{List, _++_, append-assoc}
 use Prim.Native.Nat.{ℕ, _+_, _*_, _<_}
-use native.Mathlib.Nat.{mul-le-mul-right}
 use native.Mathlib.Omega.{arith}
 use lib.ListN.{length, getD, List·getD-append}
 use lib.Seq.{getD-append-add}
+use Rattle.algebra.specs.Ends.{run-room}
 use Rattle.algebra.specs.Lists.{tab}
 use Rattle.algebra.specs.Polynomial.{Elements}
 use Rattle.algebra.specs.PolynomialLaws.{append-elements}
@@ -22,13 +22,13 @@ use Rattle.transform.specs.Transform.{interpolation}
 use Rattle.transform.specs.Interpolation.{interpolation-ext}
 use Rattle.transform.specs.Parts.{laid, interpolated}
 use Rattle.circuit.specs.Circuit.{lentCircuit, permutation, position}
-use Rattle.circuit.specs.Buffers.{selectorsLength}
+use Rattle.circuit.specs.Buffers.{selectorsLength, preparedLength}
 use Rattle.protocol.specs.Protocol.{prepared, wiredTag}
 use Rattle.preparing.specs.Promises.{rowsOf}
 
-pub rows-elements : (p n : ℕ) (selectors labels : List ℕ) → Admissible p n → Elements p (selectorsLength n) selectors → Elements p (8 * n) (rowsOf p n selectors labels)
+pub rows-elements : (p n : ℕ) (selectors labels : List ℕ) → Admissible p n → Elements p (selectorsLength n) selectors → Elements p (preparedLength n) (rowsOf p n selectors labels)
 rows-elements p n selectors labels A e =
-    let sum : 5 * n + 3 * n ≡ 8 * n = omega arith in
+    let sum : selectorsLength n + 3 * n ≡ preparedLength n = omega arith in
     let pos : 0 < p = omega (arith, field-prime p (A .one-of-three) .two) in
     subst (λ (m : ℕ). Elements p m (rowsOf p n selectors labels)) sum
     (append-elements e
@@ -44,7 +44,7 @@ module _ (p n : ℕ) (selectors labels : List ℕ) (l : length selectors ≡ sel
   -- a run of the selectors, and one of the tags
   front-run : (s : ℕ) → s < 5 → run s ≡ interpolation p n (λ i. getD selectors (s * n + i) 0)
   front-run s h =
-      interpolation-ext p n _ _ (λ i k. List·getD-append selectors tags 0 (s * n + i) (omega (arith, l, mul-le-mul-right {m = s + 1} {n = 5} n (omega arith))))
+      interpolation-ext p n _ _ (λ i k. List·getD-append selectors tags 0 (s * n + i) (omega (arith, l, run-room s 5 n h)))
 
   back-run : (c : ℕ) → c < 3 → run (5 + c) ≡ interpolation p n (λ i. wiredTag p n (lentCircuit n selectors labels) (position n c i))
   back-run c h =
@@ -52,7 +52,7 @@ module _ (p n : ℕ) (selectors labels : List ℕ) (l : length selectors ≡ sel
       let at : (5 + c) * n + i ≡ length selectors + (c * n + i) = omega (arith, l) in
       ap (λ (j : ℕ). getD (selectors ++ tags) j 0) at
       ∙ getD-append-add selectors tags (c * n + i) 0
-      ∙ getD-tab _ (3 * n) (c * n + i) (omega (arith, mul-le-mul-right {m = c + 1} {n = 3} n (omega arith))))
+      ∙ getD-tab _ (3 * n) (c * n + i) (omega (arith, run-room c 3 n h)))
 
   pub rows-prepared : interpolated p n (rowsOf p n selectors labels) 8 ≡ prepared p n (lentCircuit n selectors labels)
   unfolding laid prepared

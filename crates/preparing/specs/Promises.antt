@@ -17,7 +17,7 @@ use Rattle.field.specs.Fields.{Admissible, tag}
 use Rattle.field.specs.Reasons.{answerOf, isAccepted}
 use Rattle.transform.specs.Transform.{scratchLength}
 use Rattle.circuit.specs.Circuit.{lentCircuit, permutation}
-use Rattle.circuit.specs.Buffers.{selectorsLength, preparedLength}
+use Rattle.circuit.specs.Buffers.{selectorsLength, labelsLength, preparedLength}
 use Rattle.circuit.specs.Reasons.{prepareReasons}
 use Rattle.protocol.specs.Protocol.{prepared}
 
@@ -30,7 +30,7 @@ pub record Prepares (p n : ℕ) (selectors labels written scratch : List ℕ) (r
 pub record Checked (p n : ℕ) (selectors labels written scratch : List ℕ) : Type 0 where
   pub admissible : Admissible p n
   pub elements : Elements p (selectorsLength n) selectors
-  pub labelled : Elements (3 * n) (3 * n) labels
+  pub labelled : Elements (3 * n) (labelsLength n) labels
   pub written-length : length written ≡ preparedLength n
   pub scratch-length : length scratch ≡ scratchLength n
 

@@ -9,6 +9,7 @@ ghost use Rattle.field.specs.Reasons.{answerOf};
 ghost use Rattle.transform.specs.Transform.{scratchLength};
 ghost use Rattle.circuit.specs.Circuit.{lentCircuit};
 ghost use Rattle.transform.specs.Points.{Points};
+ghost use Rattle.circuit.specs.Buffers.{selectorsLength, labelsLength, preparedLength};
 ghost use Rattle.circuit.specs.Reasons.{prepareReasons};
 ghost use Rattle.protocol.specs.Protocol.{prepared};
 ghost use Rattle.preparing.specs.Promises.{Prepares, Checked, rowsOf};
@@ -25,40 +26,21 @@ fn decide(
 ) -> Answer
     ensures { λ r. ⌜ r ≡ answerOf (prepareReasons p n (now (selectors .entry)) (now (labels .entry)) (now (written .entry)) (now (scratch .entry))) ⌝ }
 {
-    if !field::is_field(p) {
-        return field::refused(2, 0);
+    let long = [selectors.len(), labels.len(), written.len(), scratch.len()];
+    let due = circuit::due::prepare(n as usize);
+    let answer = field::decide_lent(p, n, 0, &long, &due);
+    let number = answer.number;
+    if number != 0 {
+        return answer;
     }
-    if !field::is_rows(p, n) {
-        return field::refused(3, 0);
-    }
-    let m = n as usize;
-    if selectors.len() != 5 * m {
-        return field::refused(6, 1);
-    }
-    if labels.len() != 3 * m {
-        return field::refused(6, 2);
-    }
-    if written.len() != 8 * m {
-        return field::refused(6, 3);
-    }
-    if scratch.len() != 16 * m {
-        return field::refused(6, 4);
-    }
-    let element = field::first_above(p, selectors);
-    if element < 5 * m {
-        return field::refused(7, element as u32);
-    }
-    let label = field::first_above(3 * n, labels);
-    if label < 3 * m {
-        return field::refused(8, label as u32);
-    }
-    field::accepted()
+    let at = field::first_above(p, selectors);
+    circuit::decide_numbers(n, at, selectors.len(), labels)
 }
 
 // The row values of the eight polynomials, end to end: the selectors, then the tags of where the permutation leads.
 fn fill_rows(p: u32, n: u32, powers: &[u32], selectors: &[u32], labels: &[u32], out: &mut [u32])
     requires { ⌜ Points p n (now powers) ⌝ }
-    requires { ⌜ (length (now selectors) ≡ 5 * n) × Elements (3 * n) (3 * n) (now labels) × (length (now out) ≡ 8 * n) ⌝ }
+    requires { ⌜ (length (now selectors) ≡ selectorsLength n) × Elements (3 * n) (labelsLength n) (now labels) × (length (now out) ≡ preparedLength n) ⌝ }
     ensures { λ _. ⌜ now (out .exit) ≡ rowsOf p n (now (selectors .entry)) (now (labels .entry)) ⌝ }
 {
     let m = selectors.len();

@@ -47,8 +47,7 @@ interpolate-parts-requires c κs =
     let s = c .before .before .before .before .before .before .before .before .before .before .before .before .before in
     let d = c .before .before .before .before .before .before .before .before in
     record {
-      admissible = s .pre .admissible;
-      points = d .domain-points .ensures .1;
+      domain-lent = record { admissible = s .pre .admissible; points = d .domain-points .ensures .1 };
       elements = rw (c .before .before .before .before .before .fill-rows .ensures) (rows-elements _ _ (s .args .selectors .now) (s .args .labels .now) (s .pre .admissible) (s .pre .elements));
       spare = length-take-le _ _ (scratch-fits d);
       few = omega arith;
