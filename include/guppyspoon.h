@@ -1,0 +1,216 @@
+/* The proved calls of Guppyspoon for C and C++, from target/staticlib/libexports.a, which `rt staticlib exports` writes (x86-64, Linux).
+ *
+ * Numbers are passed as themselves. A buffer is passed as a pointer to its first number and its length in numbers: bytes for a sheet and a
+ * text, 32-bit words else. Every call
+ *
+ *   returns nothing: it writes its answer's words to its last buffer, `answer`: a number (0 accepted, else the reason of a refusal), its detail,
+ *     and then what is named at the call. `answer` may have any length: as many words are written as it has room for, and none behind them;
+ *   leaves every other buffer as it was if it refuses;
+ *   keeps no state and allocates nothing, so that threads may call at the same time, each with buffers of its own;
+ *   needs the stack that its GUPPYSPOON_.._STACK names. A call that runs out of stack dies: the proofs do not cover it.
+ *
+ * What the caller sees to: no buffer overlaps one that is written, no pointer is null, even with length 0, pointers to words are aligned as words,
+ * and each buffer has the length that is passed with it. A wrong length is no fault of this kind: it is refused (reason 6).
+ *
+ * p is a prime: 17, 97 or 2013265921. An element is a number below p. n is the number of rows, a power of two, from 2 to the greatest for its prime.
+ * l is the number of public inputs, 0 to n. Selectors and witness stand column after column. A polynomial is its coefficients, lowest first.
+ * "Buffers" below are in the order in which reason 6 counts them, from 1; `answer` is not counted. Those marked "written" may hold anything
+ * before the call. `scratch` is the call's working area and holds zeros after an accepted call.
+ */
+#ifndef GUPPYSPOON_H
+#define GUPPYSPOON_H
+
+#include <stddef.h>
+#include <stdint.h>
+
+#ifdef __cplusplus
+extern "C" {
+#endif
+
+/* The greatest number of rows of each prime, and on a sheet. */
+#define GUPPYSPOON_MOST_ROWS_17 4
+#define GUPPYSPOON_MOST_ROWS_97 32
+#define GUPPYSPOON_MOST_ROWS_2013265921 1024
+#define GUPPYSPOON_MOST_ROWS_SHEET 256
+
+/* The words of the buffers for n rows. */
+#define GUPPYSPOON_SELECTORS_LENGTH(n) (5 * (size_t)(n))      /* qL, qR, qO, qM, qC */
+#define GUPPYSPOON_LABELS_LENGTH(n) (3 * (size_t)(n))         /* of the columns a, b, c */
+#define GUPPYSPOON_POSITIONS_LENGTH(n) (3 * (size_t)(n))      /* position k = column * n + row */
+#define GUPPYSPOON_WITNESS_LENGTH(n) (3 * (size_t)(n))        /* a, b, c */
+#define GUPPYSPOON_PREPARED_LENGTH(n) (8 * (size_t)(n))       /* qL, qR, qO, qM, qC, then the permuted tags of a, b, c; polynomials */
+#define GUPPYSPOON_TRANSCRIPT_LENGTH(n) (7 * (size_t)(n) - 3) /* a, b, c, z of n coefficients each, then t of 3n - 3 */
+#define GUPPYSPOON_SCRATCH_LENGTH(n) (16 * (size_t)(n))
+
+/* The challenges of each call that has them. */
+#define GUPPYSPOON_CHECK_ROWS_CHALLENGES 2  /* beta, gamma */
+#define GUPPYSPOON_PROVE_CHALLENGES 3       /* beta, gamma, alpha */
+#define GUPPYSPOON_CHECK_POINT_CHALLENGES 4 /* beta, gamma, alpha, zeta */
+
+/* Sheets: the most bytes of one, the bytes of a deposit's text, and the words of the buffers that a sheet is read into. */
+#define GUPPYSPOON_SHEET_MOST_BYTES 65536
+#define GUPPYSPOON_TEXT_LENGTH 20480
+#define GUPPYSPOON_SHEET_SELECTORS_LENGTH 1280
+#define GUPPYSPOON_SHEET_LABELS_LENGTH 768
+#define GUPPYSPOON_SHEET_WITNESS_LENGTH 768
+#define GUPPYSPOON_SHEET_PUBLICS_LENGTH 256
+#define GUPPYSPOON_SHEET_CHALLENGES_LENGTH 4
+
+/* The words of each call's answer. */
+#define GUPPYSPOON_INVERSE_WORDS 3
+#define GUPPYSPOON_EVALUATE_WORDS 2
+#define GUPPYSPOON_INTERPOLATE_WORDS 2
+#define GUPPYSPOON_PERMUTATION_WORDS 2
+#define GUPPYSPOON_PREPARE_WORDS 2
+#define GUPPYSPOON_CHECK_ROWS_WORDS 4
+#define GUPPYSPOON_CHECK_POINT_WORDS 3
+#define GUPPYSPOON_PROVE_WORDS 2
+#define GUPPYSPOON_READ_WORDS 5
+#define GUPPYSPOON_DEPOSIT_WORDS 3
+
+/* The bytes of stack that are enough for each call, whatever is lent to it: somewhat more than bench/ measures at the largest size. */
+#define GUPPYSPOON_INVERSE_STACK 1024
+#define GUPPYSPOON_EVALUATE_STACK 16384
+#define GUPPYSPOON_INTERPOLATE_STACK 16384
+#define GUPPYSPOON_PERMUTATION_STACK 16384
+#define GUPPYSPOON_PREPARE_STACK 32768
+#define GUPPYSPOON_CHECK_ROWS_STACK 81920
+#define GUPPYSPOON_CHECK_POINT_STACK 24576
+#define GUPPYSPOON_PROVE_STACK 147456
+#define GUPPYSPOON_READ_STACK 32768
+#define GUPPYSPOON_DEPOSIT_STACK 196608
+
+/* Word 0 of an answer: accepted, or the first reason in this order that applies. Word 1 is the detail, 0 unless named here. */
+enum guppyspoon_reason {
+    GUPPYSPOON_ACCEPTED = 0,
+    GUPPYSPOON_BAD_START = 1,         /* the sheet is too long, or its line 1 is missing or out of form */
+    GUPPYSPOON_BAD_PRIME = 2,         /* p is none of the three primes */
+    GUPPYSPOON_BAD_ROWS = 3,          /* n is no power of two, or outside its prime's bounds, or above 256 on a sheet */
+    GUPPYSPOON_BAD_PUBLICS = 4,       /* l exceeds n */
+    GUPPYSPOON_BAD_LINE = 5,          /* a later line of the sheet is missing, extra or out of form; detail: the first such line, from 1 */
+    GUPPYSPOON_BAD_LENGTH = 6,        /* a buffer has another length than is named at the call; detail: its place among the buffers, from 1 */
+    GUPPYSPOON_BAD_ELEMENT = 7,       /* an element is p or more; detail: the place of the first, from 0, over the elements named at the call */
+    GUPPYSPOON_BAD_LABEL = 8,         /* a label is 3n or more; detail: the lowest such position */
+    GUPPYSPOON_GATE_FAILS = 9,        /* a gate fails; detail: the lowest row */
+    GUPPYSPOON_COPY_FAILS = 10,       /* a witness value differs from that of a lower position with its label; detail: the lowest such position */
+    GUPPYSPOON_ZERO_DENOMINATOR = 11  /* a factor of a denominator of z is 0; detail: the lowest row */
+};
+
+/* Word 2 of the answer of guppyspoon_check_rows. */
+enum guppyspoon_row_verdict {
+    GUPPYSPOON_ROWS_NONE = 0,  /* the call was refused */
+    GUPPYSPOON_ROWS_PASS = 1,  /* every identity holds at every row */
+    GUPPYSPOON_ROWS_GATE = 2,  /* the gate of a row fails */
+    GUPPYSPOON_ROWS_START = 3, /* z is not 1 at row 0 */
+    GUPPYSPOON_ROWS_STEP = 4   /* the step of z from a row to the next fails; row n - 1 leads to row 0 */
+};
+
+/* Word 2 of the answer of guppyspoon_check_point. */
+enum guppyspoon_point_verdict {
+    GUPPYSPOON_POINT_NONE = 0, /* the call was refused */
+    GUPPYSPOON_POINT_ACCEPT = 1,
+    GUPPYSPOON_POINT_REJECT = 2
+};
+
+/* The inverse of x modulo p; that of 0 is 0.
+ *
+ * Buffers: none.
+ * Reasons: 2, 7 (x is place 0).
+ * Answer: number, detail, the inverse (0 if refused).
+ */
+void guppyspoon_inverse(uint32_t p, uint32_t x, uint32_t *answer, size_t answer_length);
+
+/* The values of a polynomial at the points of the n rows.
+ *
+ * Buffers: 1 coefficients, n; 2 values, n, written; 3 scratch, 16n, written.
+ * Reasons: 2, 3, 6, 7 (coefficients).
+ * Answer: number, detail.
+ */
+void guppyspoon_evaluate(uint32_t p, uint32_t n, const uint32_t *coefficients, size_t coefficients_length, uint32_t *values, size_t values_length,
+                         uint32_t *scratch, size_t scratch_length, uint32_t *answer, size_t answer_length);
+
+/* The one polynomial of n coefficients with the given values at the points of the n rows.
+ *
+ * Buffers: 1 values, n; 2 coefficients, n, written; 3 scratch, 16n, written.
+ * Reasons: 2, 3, 6, 7 (values).
+ * Answer: number, detail.
+ */
+void guppyspoon_interpolate(uint32_t p, uint32_t n, const uint32_t *values, size_t values_length, uint32_t *coefficients,
+                            size_t coefficients_length, uint32_t *scratch, size_t scratch_length, uint32_t *answer, size_t answer_length);
+
+/* The copy permutation: from each position the next higher one with its label, from the highest the lowest.
+ *
+ * Buffers: 1 labels, 3n; 2 positions, 3n, written.
+ * Reasons: 2, 3, 6, 8.
+ * Answer: number, detail.
+ */
+void guppyspoon_permutation(uint32_t p, uint32_t n, const uint32_t *labels, size_t labels_length, uint32_t *positions, size_t positions_length,
+                            uint32_t *answer, size_t answer_length);
+
+/* The prepared circuit: eight polynomials of n coefficients, end to end.
+ *
+ * Buffers: 1 selectors, 5n; 2 labels, 3n; 3 written, 8n, written; 4 scratch, 16n, written.
+ * Reasons: 2, 3, 6, 7 (selectors), 8.
+ * Answer: number, detail.
+ */
+void guppyspoon_prepare(uint32_t p, uint32_t n, const uint32_t *selectors, size_t selectors_length, const uint32_t *labels, size_t labels_length,
+                        uint32_t *written, size_t written_length, uint32_t *scratch, size_t scratch_length, uint32_t *answer, size_t answer_length);
+
+/* The row check: rows upward, in each the gate, then z = 1 (row 0 only), then the step to the next row.
+ *
+ * Buffers: 1 selectors, 5n; 2 labels, 3n; 3 witness, 3n; 4 publics, l; 5 z (its values at the rows), n; 6 challenges (beta, gamma), 2.
+ * Reasons: 2, 3, 4, 6, 7 (selectors, witness, publics, z, challenges end to end), 8.
+ * Answer: number, detail, the verdict (enum guppyspoon_row_verdict), the row that fails first (0 where none does).
+ */
+void guppyspoon_check_rows(uint32_t p, uint32_t n, uint32_t l, const uint32_t *selectors, size_t selectors_length, const uint32_t *labels,
+                           size_t labels_length, const uint32_t *witness, size_t witness_length, const uint32_t *publics, size_t publics_length,
+                           const uint32_t *z, size_t z_length, const uint32_t *challenges, size_t challenges_length, uint32_t *answer,
+                           size_t answer_length);
+
+/* The point check: whether F(zeta) = t(zeta) * (zeta^n - 1) for a prepared circuit and a transcript.
+ *
+ * Buffers: 1 publics, l; 2 prepared, 8n; 3 transcript, 7n - 3; 4 challenges (beta, gamma, alpha, zeta), 4; 5 scratch, 16n, written.
+ * Reasons: 2, 3, 4, 6, 7 (publics, prepared, transcript, challenges end to end).
+ * Answer: number, detail, the verdict (enum guppyspoon_point_verdict).
+ */
+void guppyspoon_check_point(uint32_t p, uint32_t n, uint32_t l, const uint32_t *publics, size_t publics_length, const uint32_t *prepared,
+                            size_t prepared_length, const uint32_t *transcript, size_t transcript_length, const uint32_t *challenges,
+                            size_t challenges_length, uint32_t *scratch, size_t scratch_length, uint32_t *answer, size_t answer_length);
+
+/* The prover: the transcript a, b, c, z, t of a witness that satisfies its circuit.
+ *
+ * Buffers: 1 selectors, 5n; 2 labels, 3n; 3 witness, 3n; 4 publics, l; 5 transcript, 7n - 3, written; 6 challenges (beta, gamma, alpha), 3;
+ *   7 scratch, 16n, written.
+ * Reasons: 2, 3, 4, 6, 7 (selectors, witness, publics, challenges end to end), 8, 9, 10, 11.
+ * Answer: number, detail.
+ */
+void guppyspoon_prove(uint32_t p, uint32_t n, uint32_t l, const uint32_t *selectors, size_t selectors_length, const uint32_t *labels,
+                      size_t labels_length, const uint32_t *witness, size_t witness_length, const uint32_t *publics, size_t publics_length,
+                      uint32_t *transcript, size_t transcript_length, const uint32_t *challenges, size_t challenges_length, uint32_t *scratch,
+                      size_t scratch_length, uint32_t *answer, size_t answer_length);
+
+/* The numbers of a sheet, at the start of buffers with room for 256 rows, zeros behind.
+ *
+ * Buffers: 1 sheet, any number of bytes (above 65,536 gives reason 1); 2 selectors, 1280, written; 3 labels, 768, written;
+ *   4 witness, 768, written; 5 publics, 256, written; 6 challenges (beta, gamma, alpha, zeta), 4, written.
+ * Reasons: 1, 2, 3, 4, 5, 6, 7 (selectors, witness, publics, challenges end to end, as they are lent for the sheet's n and l), 8.
+ * Answer: number, detail, p, n, l (all three 0 if refused).
+ */
+void guppyspoon_read(const uint8_t *sheet, size_t sheet_length, uint32_t *selectors, size_t selectors_length, uint32_t *labels,
+                     size_t labels_length, uint32_t *witness, size_t witness_length, uint32_t *publics, size_t publics_length,
+                     uint32_t *challenges, size_t challenges_length, uint32_t *answer, size_t answer_length);
+
+/* The text that the program `deposit` prints of a sheet, zeros behind. A sheet that is refused has a text too (`refused,`, number, detail): the
+ * call is accepted.
+ *
+ * Buffers: 1 sheet, any number of bytes; 2 text, 20,480 bytes, written.
+ * Reasons: 6 (detail 2).
+ * Answer: number, detail, the bytes of the text (0 if refused).
+ */
+void guppyspoon_deposit(const uint8_t *sheet, size_t sheet_length, uint8_t *text, size_t text_length, uint32_t *answer, size_t answer_length);
+
+#ifdef __cplusplus
+}
+#endif
+
+#endif
