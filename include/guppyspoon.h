@@ -68,11 +68,12 @@ extern "C" {
 #define GUPPYSPOON_READ_WORDS 5
 #define GUPPYSPOON_DEPOSIT_WORDS 3
 
-/* The bytes of stack that are enough for each call, whatever is lent to it: somewhat more than bench/ measures at the largest size. */
-#define GUPPYSPOON_INVERSE_STACK 1024
-#define GUPPYSPOON_EVALUATE_STACK 16384
-#define GUPPYSPOON_INTERPOLATE_STACK 16384
-#define GUPPYSPOON_PERMUTATION_STACK 16384
+/* The bytes of stack that are enough for each call, whatever is lent to it: at least 4,096 more than bench/ measures at the largest size, since the
+ * first call of a program may take some 3,200 more, while the loader looks up memcpy. What a signal handler takes is not in them. */
+#define GUPPYSPOON_INVERSE_STACK 8192
+#define GUPPYSPOON_EVALUATE_STACK 20480
+#define GUPPYSPOON_INTERPOLATE_STACK 20480
+#define GUPPYSPOON_PERMUTATION_STACK 20480
 #define GUPPYSPOON_PREPARE_STACK 32768
 #define GUPPYSPOON_CHECK_ROWS_STACK 81920
 #define GUPPYSPOON_CHECK_POINT_STACK 24576

@@ -42,6 +42,23 @@ extern "C" {
     fn guppyspoon_deposit(sheet: *const u8, sheet_length: usize, text: *mut u8, text_length: usize, answer: *mut u32, answer_length: usize);
 }
 
+// Where a function starts, by its name without the prefix.
+pub fn address(name: &str) -> *const () {
+    match name {
+        "inverse" => guppyspoon_inverse as *const (),
+        "evaluate" => guppyspoon_evaluate as *const (),
+        "interpolate" => guppyspoon_interpolate as *const (),
+        "permutation" => guppyspoon_permutation as *const (),
+        "prepare" => guppyspoon_prepare as *const (),
+        "check_rows" => guppyspoon_check_rows as *const (),
+        "check_point" => guppyspoon_check_point as *const (),
+        "prove" => guppyspoon_prove as *const (),
+        "read" => guppyspoon_read as *const (),
+        "deposit" => guppyspoon_deposit as *const (),
+        _ => unreachable!("the library has no guppyspoon_{name}"),
+    }
+}
+
 // Each slice is lent whole, and those that are written do not overlap another, as Rust's borrows see to.
 
 pub fn inverse(p: u32, x: u32, answer: &mut [u32]) {

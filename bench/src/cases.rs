@@ -1,5 +1,5 @@
 // Cases: circuits that are filled rightly, and damage of every kind that document 01 has a reason for.
-use crate::kinds::{Case, Kind, Role};
+use crate::kinds::{plainly, Case, Kind, Role};
 use crate::numbers::*;
 use crate::plain;
 use crate::random::Random;
@@ -77,6 +77,19 @@ impl Circuit {
         }
         circuit.mend_gates();
         circuit
+    }
+
+    // The same, but the filling has no zero denominator: the prover takes it.
+    pub fn proved(r: &mut Random, p: u32, n: u32) -> Circuit {
+        loop {
+            let circuit = Circuit::new(r, p, n);
+            let case = circuit.case(r, Kind::Prove);
+            let mut buffers = case.buffers.clone();
+            let mut lent: Vec<&mut [u32]> = buffers.iter_mut().map(|b| &mut b[..]).collect();
+            if plainly(&case, &mut lent)[0] == 0 {
+                return circuit;
+            }
+        }
     }
 
     // A fault of the filling: a gate that fails, a content unlike its label's others, a zero denominator.

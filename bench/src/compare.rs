@@ -75,7 +75,7 @@ fn try_case(r: &mut Random, case: &Case, counts: &mut Counts) -> usize {
 }
 
 // A case of a kind: half of them as they should be, the others damaged once or more.
-fn make(r: &mut Random, kind: Kind, p: u32, n: u32) -> Case {
+pub fn make(r: &mut Random, kind: Kind, p: u32, n: u32) -> Case {
     let mut circuit = Circuit::new(r, p, n);
     if r.once_in(3) {
         circuit.damage(r);

@@ -1,18 +1,26 @@
-// Compares the proved library with a plain implementation of document 01, and measures both. Run it from the repository's root:
+// Compares the proved library with a plain implementation of document 01, holds the C header to the library, and measures stack and time. Run it
+// from the repository's root:
 //
 //     rt staticlib exports && cargo run --release --manifest-path bench/Cargo.toml
 //
-// The first part lends the same inputs to both, many of them, short and long, valid and damaged, and compares every word of every buffer
-// afterwards, those that a call only reads and the words around each lent part among them. The second part prints the time of each call and the
-// ratio. Behind `--`, `compare` or `measure` runs one part only, a number multiplies the number of cases, and a folder has its files that end in
-// .sheet compared too, read and deposited, and the texts with its files that end in .out.
-// The exit status is 1 if anything differs.
+// The parts, of which those named behind `--` are run, or all if none is:
+//
+//     compare   lends the same inputs to both, many of them, short and long, valid and damaged, and compares every word of every buffer
+//               afterwards, those that a call only reads and the words around each lent part among them
+//     header    compares include/guppyspoon.h with the library's source, and compiles and runs the C programs that include it
+//     stack     prints the stack that each call takes at its largest size, beside what the header says
+//     measure   prints the time of each call on both sides and the ratio
+//
+// Behind `--` a number multiplies the number of cases, and a folder has its files that end in .sheet compared too, read and deposited, and the texts
+// with its files that end in .out. The exit status is 1 if anything differs, or the header says too little of a call's stack.
 use std::path::Path;
 
 mod calls;
 mod cases;
 mod compare;
+mod declarations;
 mod document;
+mod header;
 mod kinds;
 mod measure;
 mod numbers;
@@ -23,13 +31,17 @@ mod rows;
 mod sheet_cases;
 mod sheet_compare;
 mod sheets;
+mod stack;
+
+const PARTS: [&str; 4] = ["compare", "header", "stack", "measure"];
 
 fn main() {
     let words: Vec<String> = std::env::args().skip(1).collect();
-    let says = |part: &str| words.iter().any(|w| w == part);
+    let all = !words.iter().any(|w| PARTS.contains(&w.as_str()));
+    let says = |part: &str| all || words.iter().any(|w| w == part);
     let times = words.iter().find_map(|w| w.parse().ok()).unwrap_or(1);
     let mut differences = 0;
-    if !says("measure") {
+    if says("compare") {
         differences += document::run();
         differences += compare::run(times);
         differences += sheet_compare::run(times);
@@ -37,7 +49,13 @@ fn main() {
     for folder in words.iter().map(Path::new).filter(|w| w.is_dir()) {
         differences += sheet_compare::run_folder(folder);
     }
-    if !says("compare") {
+    if says("header") {
+        differences += header::run();
+    }
+    if says("stack") {
+        differences += stack::run();
+    }
+    if says("measure") {
         measure::run();
     }
     if differences > 0 {

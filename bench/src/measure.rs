@@ -25,19 +25,6 @@ fn now() -> f64 {
     moment.seconds as f64 * 1e6 + moment.nanoseconds as f64 / 1e3
 }
 
-// A circuit whose filling has no zero denominator.
-fn circuit(r: &mut Random, n: u32) -> Circuit {
-    loop {
-        let circuit = Circuit::new(r, LARGEST, n);
-        let case = circuit.case(r, Kind::Prove);
-        let mut buffers = case.buffers.clone();
-        let mut lent: Vec<&mut [u32]> = buffers.iter_mut().map(|b| &mut b[..]).collect();
-        if plainly(&case, &mut lent)[0] == 0 {
-            return circuit;
-        }
-    }
-}
-
 // The microseconds of one call, over a batch of calls.
 fn batch(call: &mut dyn FnMut(), calls: usize) -> f64 {
     let start = now();
@@ -113,7 +100,7 @@ pub fn run() {
     println!("\nmeasuring, p = {LARGEST}, microseconds for one call, best of 15 or more batches");
     println!("{:<12} {:>6} {:>12} {:>12} {:>8}", "call", "n", "proved", "plain", "ratio");
     for n in [64, 256, 1024] {
-        let circuit = circuit(&mut r, n);
+        let circuit = Circuit::proved(&mut r, LARGEST, n);
         for kind in [Kind::Evaluate, Kind::Interpolate, Kind::Prepare, Kind::CheckRows, Kind::CheckPoint, Kind::Prove] {
             measure_case(&circuit.case(&mut r, kind));
         }

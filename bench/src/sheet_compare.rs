@@ -107,7 +107,7 @@ fn try_sheet(r: &mut Random, sheet: &[u8], reads: &mut Count, deposits: &mut Cou
 }
 
 // A sheet of a circuit, a third of them with a fault of the filling, and half of them changed once or more.
-fn make(r: &mut Random, p: u32, n: u32) -> Vec<u8> {
+pub fn make(r: &mut Random, p: u32, n: u32) -> Vec<u8> {
     let mut circuit = Circuit::new(r, p, n);
     if r.once_in(3) {
         circuit.damage(r);

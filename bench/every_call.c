@@ -1,0 +1,200 @@
+/* Makes every call of guppyspoon.h on the numbers of examples/worked.sheet, in buffers of the header's own lengths, and looks at the words of every
+ * answer. Each named reason and verdict comes once, and each greatest size is tried. bench compiles and runs it; the exit status is 1 if a word
+ * is another. */
+#include <guppyspoon.h>
+#include <stdio.h>
+#include <string.h>
+
+enum { P = 17, N = 2, L = 0, LARGEST = 2013265921, ROOM = 8, UNTOUCHED = 77 };
+
+/* A buffer as it is lent, and words as they are looked for. */
+#define LENT(buffer) buffer, sizeof buffer / sizeof *buffer
+#define EXPECT(name, count, ...) expect(name, (const uint32_t[]){__VA_ARGS__}, count)
+#define SHEET(text) (const uint8_t *)text, strlen(text)
+
+static const uint32_t selectors[GUPPYSPOON_SELECTORS_LENGTH(N)] = {0, 1, 0, 1, 16, 16, 1, 0, 0, 0};
+static const uint32_t labels[GUPPYSPOON_LABELS_LENGTH(N)] = {0, 2, 1, 2, 2, 3};
+static const uint32_t witness[GUPPYSPOON_WITNESS_LENGTH(N)] = {2, 6, 3, 6, 6, 12};
+static const uint32_t publics[1] = {0};
+static const uint32_t z[N] = {1, 14};
+static const uint32_t pair[GUPPYSPOON_CHECK_ROWS_CHALLENGES] = {1, 1};
+static const uint32_t three[GUPPYSPOON_PROVE_CHALLENGES] = {1, 1, 2};
+static const uint32_t four[GUPPYSPOON_CHECK_POINT_CHALLENGES] = {1, 1, 2, 2};
+static const uint32_t proof[GUPPYSPOON_TRANSCRIPT_LENGTH(N)] = {4, 15, 13, 7, 9, 14, 16, 2, 9, 12, 15};
+static const char sheet[] = "17,2,0\n0,0,16,1,0,0,1,2\n1,1,16,0,0,2,2,3\n2,3,6\n6,6,12\n1,1,2,2\n";
+static const char printed[] = "a,4,15\nb,13,7\nc,9,14\nz,16,2\nt,9,12,15\naccept\n";
+
+static uint32_t values[N];
+static uint32_t coefficients[N];
+static uint32_t positions[GUPPYSPOON_POSITIONS_LENGTH(N)];
+static uint32_t prepared[GUPPYSPOON_PREPARED_LENGTH(N)];
+static uint32_t transcript[GUPPYSPOON_TRANSCRIPT_LENGTH(N)];
+static uint32_t scratch[GUPPYSPOON_SCRATCH_LENGTH(N)];
+static uint32_t sheet_selectors[GUPPYSPOON_SHEET_SELECTORS_LENGTH];
+static uint32_t sheet_labels[GUPPYSPOON_SHEET_LABELS_LENGTH];
+static uint32_t sheet_witness[GUPPYSPOON_SHEET_WITNESS_LENGTH];
+static uint32_t sheet_publics[GUPPYSPOON_SHEET_PUBLICS_LENGTH];
+static uint32_t sheet_challenges[GUPPYSPOON_SHEET_CHALLENGES_LENGTH];
+static uint8_t text[GUPPYSPOON_TEXT_LENGTH];
+static uint32_t answer[ROOM];
+static int differences = 0;
+
+static void expect_that(const char *name, int holds)
+{
+    if (!holds) {
+        printf("DIFFERENCE every_call.c, %s\n", name);
+        differences++;
+    }
+}
+
+/* The answer is these words, and what stands behind them is untouched. */
+static void expect(const char *name, const uint32_t *words, size_t count)
+{
+    int same = 1;
+    for (size_t i = 0; i < ROOM; i++) {
+        same = same && answer[i] == (i < count ? words[i] : UNTOUCHED);
+        answer[i] = UNTOUCHED;
+    }
+    expect_that(name, same);
+}
+
+static void prove(const uint32_t *contents, const uint32_t *challenges)
+{
+    guppyspoon_prove(P, N, L, LENT(selectors), LENT(labels), contents, GUPPYSPOON_WITNESS_LENGTH(N), publics, L, LENT(transcript), challenges,
+                     GUPPYSPOON_PROVE_CHALLENGES, LENT(scratch), LENT(answer));
+}
+
+static void check_rows(const uint32_t *contents, const uint32_t *column)
+{
+    guppyspoon_check_rows(P, N, L, LENT(selectors), LENT(labels), contents, GUPPYSPOON_WITNESS_LENGTH(N), publics, L, column, N, LENT(pair),
+                          LENT(answer));
+}
+
+static void check_point(uint32_t l, const uint32_t *lent)
+{
+    guppyspoon_check_point(P, N, l, publics, L, LENT(prepared), lent, GUPPYSPOON_TRANSCRIPT_LENGTH(N), LENT(four), LENT(scratch), LENT(answer));
+}
+
+static void read(const uint8_t *bytes, size_t length)
+{
+    guppyspoon_read(bytes, length, LENT(sheet_selectors), LENT(sheet_labels), LENT(sheet_witness), LENT(sheet_publics), LENT(sheet_challenges),
+                    LENT(answer));
+}
+
+static void every_call(void)
+{
+    guppyspoon_inverse(P, 3, LENT(answer));
+    EXPECT("inverse", GUPPYSPOON_INVERSE_WORDS, GUPPYSPOON_ACCEPTED, 0, 6);
+    guppyspoon_interpolate(P, N, LENT(z), LENT(coefficients), LENT(scratch), LENT(answer));
+    EXPECT("interpolate", GUPPYSPOON_INTERPOLATE_WORDS, GUPPYSPOON_ACCEPTED, 0);
+    guppyspoon_evaluate(P, N, LENT(coefficients), LENT(values), LENT(scratch), LENT(answer));
+    EXPECT("evaluate", GUPPYSPOON_EVALUATE_WORDS, GUPPYSPOON_ACCEPTED, 0);
+    expect_that("interpolate, then evaluate", memcmp(values, z, sizeof z) == 0);
+    guppyspoon_permutation(P, N, LENT(labels), LENT(positions), LENT(answer));
+    EXPECT("permutation", GUPPYSPOON_PERMUTATION_WORDS, GUPPYSPOON_ACCEPTED, 0);
+    expect_that("position 1 leads to 3", positions[1] == 3);
+    guppyspoon_prepare(P, N, LENT(selectors), LENT(labels), LENT(prepared), LENT(scratch), LENT(answer));
+    EXPECT("prepare", GUPPYSPOON_PREPARE_WORDS, GUPPYSPOON_ACCEPTED, 0);
+    prove(witness, three);
+    EXPECT("prove", GUPPYSPOON_PROVE_WORDS, GUPPYSPOON_ACCEPTED, 0);
+    expect_that("the transcript", memcmp(transcript, proof, sizeof proof) == 0);
+    read(SHEET(sheet));
+    EXPECT("read", GUPPYSPOON_READ_WORDS, GUPPYSPOON_ACCEPTED, 0, P, N, L);
+    expect_that("the sheet's witness", memcmp(sheet_witness, witness, sizeof witness) == 0);
+    guppyspoon_deposit(SHEET(sheet), LENT(text), LENT(answer));
+    EXPECT("deposit", GUPPYSPOON_DEPOSIT_WORDS, GUPPYSPOON_ACCEPTED, 0, sizeof printed - 1);
+    expect_that("the text", memcmp(text, printed, sizeof printed) == 0);
+}
+
+/* check_rows and check_point: each verdict. The prepared circuit is that of every_call. */
+static void every_verdict(void)
+{
+    check_rows(witness, z);
+    EXPECT("pass", GUPPYSPOON_CHECK_ROWS_WORDS, GUPPYSPOON_ACCEPTED, 0, GUPPYSPOON_ROWS_PASS, 0);
+    check_rows((const uint32_t[]){2, 6, 3, 6, 6, 11}, (const uint32_t[]){1, 7});
+    EXPECT("step", GUPPYSPOON_CHECK_ROWS_WORDS, GUPPYSPOON_ACCEPTED, 0, GUPPYSPOON_ROWS_STEP, 0);
+    check_rows((const uint32_t[]){2, 6, 3, 6, 6, 11}, z);
+    EXPECT("gate", GUPPYSPOON_CHECK_ROWS_WORDS, GUPPYSPOON_ACCEPTED, 0, GUPPYSPOON_ROWS_GATE, 1);
+    check_rows(witness, (const uint32_t[]){2, 14});
+    EXPECT("start", GUPPYSPOON_CHECK_ROWS_WORDS, GUPPYSPOON_ACCEPTED, 0, GUPPYSPOON_ROWS_START, 0);
+    check_rows(witness, (const uint32_t[]){17, 14});
+    EXPECT("no row verdict", GUPPYSPOON_CHECK_ROWS_WORDS, GUPPYSPOON_BAD_ELEMENT, 16, GUPPYSPOON_ROWS_NONE, 0);
+    check_point(L, proof);
+    EXPECT("accept", GUPPYSPOON_CHECK_POINT_WORDS, GUPPYSPOON_ACCEPTED, 0, GUPPYSPOON_POINT_ACCEPT);
+    check_point(L, (const uint32_t[]){5, 15, 13, 7, 9, 14, 16, 2, 9, 12, 15});
+    EXPECT("reject", GUPPYSPOON_CHECK_POINT_WORDS, GUPPYSPOON_ACCEPTED, 0, GUPPYSPOON_POINT_REJECT);
+    check_point(N + 1, proof);
+    EXPECT("no point verdict", GUPPYSPOON_CHECK_POINT_WORDS, GUPPYSPOON_BAD_PUBLICS, 0, GUPPYSPOON_POINT_NONE);
+}
+
+/* The reasons that no verdict above came with. */
+static void every_reason(void)
+{
+    read(SHEET("17,2\n"));
+    EXPECT("reason 1", GUPPYSPOON_READ_WORDS, GUPPYSPOON_BAD_START, 0, 0, 0, 0);
+    guppyspoon_inverse(P + 1, 3, LENT(answer));
+    EXPECT("reason 2", GUPPYSPOON_INVERSE_WORDS, GUPPYSPOON_BAD_PRIME, 0, 0);
+    guppyspoon_permutation(P, N + 1, LENT(labels), LENT(positions), LENT(answer));
+    EXPECT("reason 3", GUPPYSPOON_PERMUTATION_WORDS, GUPPYSPOON_BAD_ROWS, 0);
+    read(SHEET("17,2,0\n0,0,16,1,0,0,1,2\n1,1,16\n"));
+    EXPECT("reason 5", GUPPYSPOON_READ_WORDS, GUPPYSPOON_BAD_LINE, 3, 0, 0, 0);
+    guppyspoon_deposit(SHEET(sheet), text, GUPPYSPOON_TEXT_LENGTH - 1, LENT(answer));
+    EXPECT("reason 6", GUPPYSPOON_DEPOSIT_WORDS, GUPPYSPOON_BAD_LENGTH, 2, 0);
+    guppyspoon_permutation(P, N, (const uint32_t[]){0, 2, 1, 2, 2, 6}, GUPPYSPOON_LABELS_LENGTH(N), LENT(positions), LENT(answer));
+    EXPECT("reason 8", GUPPYSPOON_PERMUTATION_WORDS, GUPPYSPOON_BAD_LABEL, 5);
+    prove((const uint32_t[]){2, 6, 3, 6, 6, 11}, three);
+    EXPECT("reason 9", GUPPYSPOON_PROVE_WORDS, GUPPYSPOON_GATE_FAILS, 1);
+    prove((const uint32_t[]){2, 5, 3, 7, 6, 12}, three);
+    EXPECT("reason 10", GUPPYSPOON_PROVE_WORDS, GUPPYSPOON_COPY_FAILS, 3);
+    prove(witness, (const uint32_t[]){1, 2, 2});
+    EXPECT("reason 11", GUPPYSPOON_PROVE_WORDS, GUPPYSPOON_ZERO_DENOMINATOR, 1);
+}
+
+/* So many rows of a prime are taken, and twice as many are not. Only labels are lent: all zeros. */
+static void most_rows(const char *name, uint32_t p, uint32_t n)
+{
+    static const uint32_t zeros[GUPPYSPOON_LABELS_LENGTH(GUPPYSPOON_MOST_ROWS_2013265921)];
+    static uint32_t room[GUPPYSPOON_POSITIONS_LENGTH(GUPPYSPOON_MOST_ROWS_2013265921)];
+    guppyspoon_permutation(p, n, zeros, GUPPYSPOON_LABELS_LENGTH(n), room, GUPPYSPOON_POSITIONS_LENGTH(n), LENT(answer));
+    EXPECT(name, GUPPYSPOON_PERMUTATION_WORDS, GUPPYSPOON_ACCEPTED, 0);
+    guppyspoon_permutation(p, 2 * n, zeros, 0, room, 0, LENT(answer));
+    EXPECT(name, GUPPYSPOON_PERMUTATION_WORDS, GUPPYSPOON_BAD_ROWS, 0);
+}
+
+/* The same of a sheet, which is then wanting its line 2. */
+static void most_rows_sheet(void)
+{
+    char line[40];
+    sprintf(line, "%d,%d,0\n", LARGEST, GUPPYSPOON_MOST_ROWS_SHEET);
+    read(SHEET(line));
+    EXPECT("most rows of a sheet", GUPPYSPOON_READ_WORDS, GUPPYSPOON_BAD_LINE, 2, 0, 0, 0);
+    sprintf(line, "%d,%d,0\n", LARGEST, 2 * GUPPYSPOON_MOST_ROWS_SHEET);
+    read(SHEET(line));
+    EXPECT("most rows of a sheet", GUPPYSPOON_READ_WORDS, GUPPYSPOON_BAD_ROWS, 0, 0, 0, 0);
+}
+
+/* A sheet with zeros behind its last line, which are a line 7 out of form, up to the greatest length and past it. */
+static void most_bytes(void)
+{
+    static uint8_t bytes[GUPPYSPOON_SHEET_MOST_BYTES + 1];
+    memcpy(bytes, sheet, sizeof sheet);
+    read(bytes, GUPPYSPOON_SHEET_MOST_BYTES);
+    EXPECT("most bytes", GUPPYSPOON_READ_WORDS, GUPPYSPOON_BAD_LINE, 7, 0, 0, 0);
+    read(bytes, GUPPYSPOON_SHEET_MOST_BYTES + 1);
+    EXPECT("most bytes", GUPPYSPOON_READ_WORDS, GUPPYSPOON_BAD_START, 0, 0, 0, 0);
+}
+
+int main(void)
+{
+    for (size_t i = 0; i < ROOM; i++)
+        answer[i] = UNTOUCHED;
+    every_call();
+    every_verdict();
+    every_reason();
+    most_rows("most rows of 17", 17, GUPPYSPOON_MOST_ROWS_17);
+    most_rows("most rows of 97", 97, GUPPYSPOON_MOST_ROWS_97);
+    most_rows("most rows of 2013265921", LARGEST, GUPPYSPOON_MOST_ROWS_2013265921);
+    most_rows_sheet();
+    most_bytes();
+    return differences > 0;
+}
