@@ -18,13 +18,13 @@
 use mathlib.Core.Bool.{cond}
 use mathlib.Core.List.{List, [], _∷_, _++_}
 use Prim.Native.Nat.{ℕ, _*_}
-use lib.ListN.{getD, take, drop, replicate}
+use lib.ListN.{getD, take, replicate}
 use Rattle.field.specs.declared.Answer.{Answer}
 use Rattle.field.specs.Reasons.{answerOf, isAccepted}
 use Rattle.transform.specs.Transform.{scratchLength}
 use Rattle.circuit.specs.Circuit.{Circuit, lentCircuit, lentPublic, lentWitness}
-use Rattle.circuit.specs.Buffers.{transcriptLength}
-use Rattle.protocol.specs.Protocol.{prepared, wiresOf, zOf, tOf, proved, PointVerdict, accept, reject, part, pointVerdict, proveReasons}
+use Rattle.circuit.specs.Buffers.{transcriptLength, wirePart, zPart, tPart}
+use Rattle.protocol.specs.Protocol.{prepared, wiresOf, zOf, tOf, proved, PointVerdict, accept, reject, pointVerdict, proveReasons}
 use Rattle.pointcheck.specs.declared.Judged.{Judged}
 use Rattle.pointcheck.specs.declared.Judged.the-variants.{None, Accept, Reject}
 use Rattle.text.specs.Text.{decimal}
@@ -69,8 +69,8 @@ textLength = 20480
 -- of a lent transcript: a, b, c, z, t
 abbrev pub transcriptText : ℕ → List ℕ → List ℕ
 transcriptText n transcript =
-    letterLine 97 (part n 0 transcript) ++ (letterLine 98 (part n 1 transcript) ++ letterLine 99 (part n 2 transcript))
-    ++ (letterLine 122 (part n 3 transcript) ++ letterLine 116 (drop (4 * n) transcript))
+    letterLine 97 (wirePart n 0 transcript) ++ (letterLine 98 (wirePart n 1 transcript) ++ letterLine 99 (wirePart n 2 transcript))
+    ++ (letterLine 122 (zPart n transcript) ++ letterLine 116 (tPart n transcript))
 
 -- THE TEXT OF A DEPOSIT
 
@@ -91,5 +91,5 @@ unfoldable pub workText : (p n l : ℕ) (selectors labels witness publics challe
 workText p n l selectors labels witness publics challenges =
     let r : Answer = workAnswer p n l selectors labels witness publics challenges in
     cond (isAccepted r)
-    (provedText p n (lentCircuit n selectors labels) (lentPublic publics) (lentWitness witness) (getD challenges 0 0) (getD challenges 1 0) (getD challenges 2 0) (getD challenges 3 0))
+    (provedText p n (lentCircuit n selectors labels) (lentPublic publics) (lentWitness n witness) (getD challenges 0 0) (getD challenges 1 0) (getD challenges 2 0) (getD challenges 3 0))
     (refusedText (r .number) (r .detail))

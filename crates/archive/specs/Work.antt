@@ -148,7 +148,7 @@ module _ (p n l : ℕ) (selectors labels witness publics challenges : List ℕ) 
         circuit-right = A .circuit-right;
         publics-right = A .publics-right;
         transcript-right =
-            proved-elements p n (lentCircuit n selectors labels) (lentPublic publics) (lentWitness witness) _ _ _
+            proved-elements p n (lentCircuit n selectors labels) (lentPublic publics) (lentWitness n witness) _ _ _
             (omega (arith, field-prime p (A .admissible .one-of-three) .two))
             (omega (arith, W .some));
         challenges-right = W .challenges-right;
@@ -165,7 +165,7 @@ module _ (p n l : ℕ) (selectors labels witness publics challenges : List ℕ) 
         getD-take 3 challenges 2 0 (omega arith),
         eq-eqb (workAnswer p n l selectors labels witness publics challenges .number) 0 e,
       )
-      (laid-text p n (lentCircuit n selectors labels) (lentPublic publics) (lentWitness witness) (getD challenges 0 0) (getD challenges 1 0) (getD challenges 2 0) (getD challenges 3 0))
+      (laid-text p n (lentCircuit n selectors labels) (lentPublic publics) (lentWitness n witness) (getD challenges 0 0) (getD challenges 1 0) (getD challenges 2 0) (getD challenges 3 0))
 
   pub refused-text : (r : Answer) → r ≡ workAnswer p n l selectors labels witness publics challenges → r .number ≢ 0
       → refusedText (r .number) (r .detail) ≡ workText p n l selectors labels witness publics challenges

@@ -46,8 +46,9 @@ fn print_sheet(sheet: &[u8], text: &mut [u8]) -> usize
     if number == 0 {
         let l = found.l;
         let m = found.n as usize;
-        let five = 5 * m;
-        let three = 3 * m;
+        let five = circuit::selectors_length(m);
+        let three = circuit::labels_length(m);
+        let values = circuit::witness_length(m);
         let few = l as usize;
         return work::print_work(
             found.p,
@@ -55,7 +56,7 @@ fn print_sheet(sheet: &[u8], text: &mut [u8]) -> usize
             l,
             &selectors[..five],
             &labels[..three],
-            &witness[..three],
+            &witness[..values],
             &publics[..few],
             &challenges,
             text,
@@ -68,16 +69,17 @@ fn print_sheet(sheet: &[u8], text: &mut [u8]) -> usize
 pub fn deposit(sheet: &[u8], text: &mut [u8]) -> Deposited
     ensures { λ r. ⌜ Deposits (now (sheet .entry)) (now (text .entry)) r (now (text .exit)) ⌝ }
 {
-    if text.len() != 20480 {
-        return Deposited {
-            answer: field::refused(6, 2),
-            length: 0,
-        };
+    let long = [sheet.len(), text.len()];
+    let due = [sheet.len(), 20480];
+    let answer = field::decide_lengths(&long, &due);
+    let number = answer.number;
+    if number != 0 {
+        return Deposited { answer, length: 0 };
     }
     let end = print_sheet(sheet, text);
     print::clear(&mut text[end..]);
     Deposited {
-        answer: field::accepted(),
+        answer,
         length: end,
     }
 }

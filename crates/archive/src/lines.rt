@@ -54,14 +54,16 @@ pub fn put_transcript(m: usize, transcript: &[u32], out: &mut [u8]) -> usize
     requires { ⌜ Laid m (now transcript) (now out) ⌝ }
     ensures { λ r. ⌜ Puts 0 (transcriptText m (now (transcript .entry))) (now (out .entry)) r (now (out .exit)) ⌝ }
 {
-    let two = 2 * m;
-    let three = 3 * m;
-    let four = 4 * m;
     let next = put_wires(
-        &transcript[..m],
-        &transcript[m..two],
-        &transcript[two..three],
+        circuit::wire_part(m, 0, transcript),
+        circuit::wire_part(m, 1, transcript),
+        circuit::wire_part(m, 2, transcript),
         out,
     );
-    put_rest(&transcript[three..four], &transcript[four..], out, next)
+    put_rest(
+        circuit::z_part(m, transcript),
+        circuit::t_part(m, transcript),
+        out,
+        next,
+    )
 }

@@ -34,7 +34,7 @@ fn lay(
     ensures { λ r. ⌜ Lays p n l (now (selectors .entry)) (now (labels .entry)) (now (witness .entry)) (now (publics .entry)) (now (challenges .entry)) (now (transcript .entry)) r (now (transcript .exit)) ⌝ }
 {
     let m = n as usize;
-    let end = 16 * m;
+    let end = transform::scratch_length(m);
     let three = 3;
     let mut scratch = blanks::blank_4096();
     prover::prove(
@@ -57,7 +57,7 @@ fn prepare(p: u32, n: u32, selectors: &[u32], labels: &[u32], prepared: &mut [u3
     ensures { λ _. ⌜ now (prepared .exit) ≡ Protocol·prepared p n (lentCircuit n (now (selectors .entry)) (now (labels .entry))) ⌝ }
 {
     let m = n as usize;
-    let end = 16 * m;
+    let end = transform::scratch_length(m);
     let mut scratch = blanks::blank_4096();
     preparing::prepare(p, n, selectors, labels, prepared, &mut scratch[..end]);
 }
@@ -76,7 +76,7 @@ fn check(
     ensures { λ r. ⌜ r ≡ judgedAt p n (now (publics .entry)) (now (prepared .entry)) (now (transcript .entry)) (now (challenges .entry)) ⌝ }
 {
     let m = n as usize;
-    let end = 16 * m;
+    let end = transform::scratch_length(m);
     let mut scratch = blanks::blank_4096();
     let answer = pointcheck::check_point(
         p,
@@ -106,7 +106,7 @@ fn judge(
     ensures { λ r. ⌜ r ≡ judgedFrom p n (now (selectors .entry)) (now (labels .entry)) (now (publics .entry)) (now (transcript .entry)) (now (challenges .entry)) ⌝ }
 {
     let m = n as usize;
-    let end = 8 * m;
+    let end = circuit::prepared_length(m);
     let mut prepared = field::blank_2048();
     prepare(p, n, selectors, labels, &mut prepared[..end]);
     check(p, n, l, publics, &prepared[..end], transcript, challenges)
@@ -149,7 +149,7 @@ pub fn print_work(
     ensures { λ r. ⌜ Puts 0 (workText p n l (now (selectors .entry)) (now (labels .entry)) (now (witness .entry)) (now (publics .entry)) (now (challenges .entry))) (now (text .entry)) r (now (text .exit)) ⌝ }
 {
     let m = n as usize;
-    let end = 7 * m - 3;
+    let end = circuit::transcript_length(m);
     let mut transcript = field::blank_2048();
     let answer = lay(
         p,

@@ -17,7 +17,7 @@ use Rattle.algebra.specs.Polynomial.{Elements}
 use Rattle.field.specs.Fields.{Admissible}
 use Rattle.transform.specs.Transform.{scratchLength}
 use Rattle.circuit.specs.Circuit.{Circuit, lentCircuit, lentPublic}
-use Rattle.circuit.specs.Buffers.{transcriptLength}
+use Rattle.circuit.specs.Buffers.{labelsLength, witnessLength, transcriptLength}
 use Rattle.circuit.specs.RightlyLent.{RightCircuit}
 use Rattle.protocol.specs.Protocol.{prepared, pointF, fOf, wiresOf, zOf, transcript}
 use Rattle.protocol.specs.Layout.{lent-F}
@@ -38,8 +38,8 @@ pub record Ready (p n : ℕ) (selectors labels publics challenges scratch : List
 
 pub record Front (p n : ℕ) (labels witness transcript challenges scratch : List ℕ) : Type 0 where
   pub admissible : Admissible p n
-  pub labelled : Elements (3 * n) (3 * n) labels
-  pub elements : Elements p (3 * n) witness
+  pub labelled : Elements (3 * n) (labelsLength n) labels
+  pub elements : Elements p (witnessLength n) witness
   pub transcript-long : length transcript ≡ transcriptLength n
   pub challenges-long : length challenges ≡ 3
   pub scratch-long : length scratch ≡ scratchLength n

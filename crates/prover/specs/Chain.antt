@@ -25,9 +25,9 @@ use Rattle.field.specs.Reasons.{isAccepted}
 use Rattle.transform.specs.Transform.{evaluation, scratchLength}
 use Rattle.transform.specs.Interpolation.{interpolation-one}
 use Rattle.circuit.specs.Circuit.{Circuit, lentCircuit, lentPublic, lentWitness}
-use Rattle.circuit.specs.Buffers.{preparedLength}
+use Rattle.circuit.specs.Buffers.{preparedLength, zPart}
 use Rattle.circuit.specs.RightlyLent.{prepare-taken}
-use Rattle.protocol.specs.Protocol.{rowZ, wiresOf, zOf, tOf, part, prepared}
+use Rattle.protocol.specs.Protocol.{rowZ, wiresOf, zOf, tOf, prepared}
 use Rattle.protocol.specs.Layout.{z-part}
 use Rattle.protocol.specs.Lengths.{interpolation-length}
 use Rattle.protocol.specs.Rows.{rowZ-lt}
@@ -46,9 +46,9 @@ use Rattle.prover.specs.Promises.{provedFrom, Proves}
 
 -- the buffers that `prove` was lent, and the transcript that it left
 pub record PassesChecks (p n l : ℕ) (selectors labels witness publics challenges transcript' : List ℕ) : Type 0 where
-  -- z is part 3 of the transcript
+  -- lent the values of the transcript's z
   pub rows-pass : (r : RowAnswer)
-      → ChecksRows p n l selectors labels witness publics (evaluation p n (part n 3 transcript')) (getD challenges 0 0 ∷ getD challenges 1 0 ∷ []) r
+      → ChecksRows p n l selectors labels witness publics (evaluation p n (zPart n transcript')) (getD challenges 0 0 ∷ getD challenges 1 0 ∷ []) r
       → r .verdict ≡ Pass
   -- whatever the written buffer and the scratches held before
   pub point-accepted : (written scratch : List ℕ) → length written ≡ preparedLength n → length scratch ≡ scratchLength n
@@ -94,13 +94,13 @@ module _ (p n l : ℕ) (selectors labels witness publics transcript challenges s
   below : (k : ℕ) → k < 3 → getD challenges k 0 < p
   below k h = all-getD (λ (c : ℕ). c < p) challenges (A .challenges-right .below) k (omega (arith, A .challenges-right .long))
 
-  z-lent : evaluation p n (part n 3 laid) ≡ tab (rowZ p n (lentCircuit n selectors labels) (lentWitness witness) (getD challenges 0 0) (getD challenges 1 0)) n
+  z-lent : evaluation p n (zPart n laid) ≡ tab (rowZ p n (lentCircuit n selectors labels) (lentWitness n witness) (getD challenges 0 0) (getD challenges 1 0)) n
   z-lent =
       ap (evaluation p n)
-      (z-part n (wiresOf p n (lentWitness witness)) (zOf p n C (lentWitness witness) beta gamma) (tOf p n C (lentPublic publics) (lentWitness witness) beta gamma alpha)
+      (z-part n (wiresOf p n (lentWitness n witness)) (zOf p n C (lentWitness n witness) beta gamma) (tOf p n C (lentPublic publics) (lentWitness n witness) beta gamma alpha)
       (λ c h. interpolation-length p n _)
       (interpolation-length p n _))
-      ∙ z-values p n (A .admissible) C (lentWitness witness) beta gamma
+      ∙ z-values p n (A .admissible) C (lentWitness n witness) beta gamma
 
   pub passes-laid : PassesChecks p n l selectors labels witness publics challenges (provedFrom p n selectors labels witness publics challenges)
   passes-laid =

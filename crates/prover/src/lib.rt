@@ -8,7 +8,7 @@ ghost use lib.ListN.{length, getD, take, drop, replicate};
 ghost use Rattle.algebra.specs.Polynomial.{reduced};
 ghost use Rattle.transform.specs.Transform.{scratchLength};
 ghost use Rattle.circuit.specs.Circuit.{lentCircuit, lentWitness};
-ghost use Rattle.circuit.specs.Buffers.{transcriptLength};
+ghost use Rattle.circuit.specs.Buffers.{transcriptLength, tStart};
 ghost use Rattle.protocol.specs.Protocol.{quotient};
 ghost use Rattle.laying.specs.Rows.{laidRows};
 ghost use Rattle.prover.specs.Promises.{provedFrom, Proves};
@@ -26,11 +26,11 @@ fn fill_f(
     challenges: &[u32],
     scratch: &mut [u32],
 )
-    requires { ⌜ Ready p n (now selectors) (now labels) (now publics) (now challenges) (now scratch) × (length (now laid) ≡ 4 * n) ⌝ }
+    requires { ⌜ Ready p n (now selectors) (now labels) (now publics) (now challenges) (now scratch) × (length (now laid) ≡ tStart n) ⌝ }
     ensures { λ _. ⌜ take (6 * n) (now (scratch .exit)) ≡ reduced p (6 * n) (lentF p n (now (selectors .entry)) (now (labels .entry)) (now (publics .entry)) (now (laid .entry)) (now (challenges .entry))) ⌝ }
 {
     let m = n as usize;
-    let k = 8 * m;
+    let k = circuit::prepared_length(m);
     let end = 6 * m;
     let mut prepared = field::blank_8192();
     let powers = field::domain_points(p, n);
@@ -61,10 +61,10 @@ fn lay_t(
     scratch: &mut [u32],
 )
     requires { ⌜ Ready p n (now selectors) (now labels) (now publics) (now challenges) (now scratch) × (length (now transcript) ≡ transcriptLength n) ⌝ }
-    ensures { λ _. ⌜ now (transcript .exit) ≡ take (4 * n) (now (transcript .entry)) ++ quotient p n (lentF p n (now (selectors .entry)) (now (labels .entry)) (now (publics .entry)) (take (4 * n) (now (transcript .entry))) (now (challenges .entry))) ⌝ }
+    ensures { λ _. ⌜ now (transcript .exit) ≡ take (tStart n) (now (transcript .entry)) ++ quotient p n (lentF p n (now (selectors .entry)) (now (labels .entry)) (now (publics .entry)) (take (tStart n) (now (transcript .entry))) (now (challenges .entry))) ⌝ }
 {
     let m = n as usize;
-    let at = 4 * m;
+    let at = circuit::t_start(m);
     let end = 6 * m;
     fill_f(
         p,
@@ -90,10 +90,10 @@ fn lay_front(
     scratch: &mut [u32],
 )
     requires { ⌜ Front p n (now labels) (now witness) (now transcript) (now challenges) (now scratch) ⌝ }
-    ensures { λ _. ⌜ ((selectors : List ℕ) → now (transcript .exit) ≡ laidRows p n (lentCircuit n selectors (now (labels .entry))) (lentWitness (now (witness .entry))) (getD (now (challenges .entry)) 0 0) (getD (now (challenges .entry)) 1 0) ++ drop (4 * n) (now (transcript .entry))) ⌝ }
+    ensures { λ _. ⌜ ((selectors : List ℕ) → now (transcript .exit) ≡ laidRows p n (lentCircuit n selectors (now (labels .entry))) (lentWitness n (now (witness .entry))) (getD (now (challenges .entry)) 0 0) (getD (now (challenges .entry)) 1 0) ++ drop (tStart n) (now (transcript .entry))) ⌝ }
 {
     let m = n as usize;
-    let end = 4 * m;
+    let end = circuit::t_start(m);
     let powers = field::domain_points(p, n);
     laying::lay_rows(
         p,

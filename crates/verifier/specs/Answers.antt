@@ -25,7 +25,8 @@ use Rattle.field.specs.Primes.{field-prime}
 use Rattle.field.specs.Reasons.{answerOf, isAccepted}
 use Rattle.field.specs.declared.Answer.{Answer}
 use Rattle.transform.specs.Transform.{valueAt, evaluation, scratchLength}
-use Rattle.circuit.specs.Circuit.{Circuit, position, gate, Satisfies, lentCircuit, lentPublic, lentWitness}
+use Rattle.circuit.specs.Circuit.{Circuit, position, gate, Satisfies, lentCircuit, lentPublic, lentWitness, laidWitness}
+use Rattle.circuit.specs.Witness.{lent-laid, laid-elements}
 use Rattle.circuit.specs.Buffers.{witnessLength, quotientLength}
 use Rattle.circuit.specs.Reasons.{rowsReasons}
 use Rattle.circuit.specs.RightlyLent.{RightCircuit, RightPublics, rows-taken, point-taken}
@@ -50,7 +51,7 @@ module _ (p n l : ℕ) (selectors labels publics : List ℕ) (wire : ℕ → Lis
     pub z : List ℕ
     pub z-elements : Elements p n z
     pub r : RowAnswer
-    pub checks : ChecksRows p n l selectors labels (tab (witnessOf p n wire) (3 * n)) publics (evaluation p n z) (pair .0 ∷ pair .1 ∷ []) r
+    pub checks : ChecksRows p n l selectors labels (laidWitness n (witnessOf p n wire)) publics (evaluation p n z) (pair .0 ∷ pair .1 ∷ []) r
     pub passes : r .verdict ≡ Pass
 
   -- `check_point`, lent the prepared circuit and the transcript of these wires, z and t, answers Accept
@@ -81,18 +82,18 @@ pub record AnswersCounted (p n l : ℕ) (selectors labels publics : List ℕ) : 
       → AtMost (4 * n - 4) (PointAccepts p n l selectors labels publics wire z t pair alpha)
   -- a witness that satisfies the circuit, no zero factor of any D(i), and z on the rows: the row check answers Pass
   pub honest-rows : (witness : List ℕ) → Elements p (witnessLength n) witness
-      → Satisfies p n (lentCircuit n selectors labels) (lentPublic publics) (lentWitness witness)
-      → (beta gamma : ℕ) → beta < p → gamma < p → zeroFactor p n (lentCircuit n selectors labels) (lentWitness witness) beta gamma ≡ n
+      → Satisfies p n (lentCircuit n selectors labels) (lentPublic publics) (lentWitness n witness)
+      → (beta gamma : ℕ) → beta < p → gamma < p → zeroFactor p n (lentCircuit n selectors labels) (lentWitness n witness) beta gamma ≡ n
       → (r : RowAnswer)
-      → ChecksRows p n l selectors labels witness publics (tab (rowZ p n (lentCircuit n selectors labels) (lentWitness witness) beta gamma) n) (beta ∷ gamma ∷ []) r
+      → ChecksRows p n l selectors labels witness publics (tab (rowZ p n (lentCircuit n selectors labels) (lentWitness n witness) beta gamma) n) (beta ∷ gamma ∷ []) r
       → r .verdict ≡ Pass
   -- the same witness, and the transcript that the prover lays: the point check answers Accept, for every alpha and zeta
   pub honest-point : (witness : List ℕ)
-      → Satisfies p n (lentCircuit n selectors labels) (lentPublic publics) (lentWitness witness)
-      → (beta gamma : ℕ) → beta < p → gamma < p → zeroFactor p n (lentCircuit n selectors labels) (lentWitness witness) beta gamma ≡ n
+      → Satisfies p n (lentCircuit n selectors labels) (lentPublic publics) (lentWitness n witness)
+      → (beta gamma : ℕ) → beta < p → gamma < p → zeroFactor p n (lentCircuit n selectors labels) (lentWitness n witness) beta gamma ≡ n
       → (alpha zeta : ℕ) → alpha < p → zeta < p → (scratch scratch' : List ℕ) → length scratch ≡ scratchLength n → (r : PointAnswer)
       → PointChecks p n l publics (prepared p n (lentCircuit n selectors labels))
-      (proved p n (lentCircuit n selectors labels) (lentPublic publics) (lentWitness witness) beta gamma alpha)
+      (proved p n (lentCircuit n selectors labels) (lentPublic publics) (lentWitness n witness) beta gamma alpha)
       (beta ∷ gamma ∷ alpha ∷ zeta ∷ []) scratch r scratch'
       → r .verdict ≡ judged.Accept
 
@@ -165,11 +166,7 @@ module _ (p n l : ℕ) (selectors labels publics : List ℕ) where
 
   module _ (wire : ℕ → List ℕ) where
     abbrev lent : List ℕ
-    lent = tab (witnessOf p n wire) (3 * n)
-
-    -- what the row check reads is the wires' witness
-    lent-witness : (k : ℕ) → k < 3 * n → lentWitness (tab (witnessOf p n wire) (3 * n)) k ≡ witnessOf p n wire k
-    lent-witness k u = getD-tab (witnessOf p n wire) (3 * n) k u
+    lent = laidWitness n (witnessOf p n wire)
 
     passing : (pair : ℕ × ℕ) → RowsPass p n l selectors labels publics wire pair → PassingPair p n (lentCircuit n selectors labels) (lentPublic publics) wire pair
     passing pair h =
@@ -179,8 +176,8 @@ module _ (p n l : ℕ) (selectors labels publics : List ℕ) where
           z = h .z;
           z-elements = h .z-elements;
           z-passes =
-              same-pass p n C x (lentWitness lent) (witnessOf p n wire) (lentZ (evaluation p n (h .z))) (valueAt p n (h .z)) (pair .0) (pair .1)
-              lent-witness
+              same-pass p n C x (lentWitness n lent) (witnessOf p n wire) (lentZ (evaluation p n (h .z))) (valueAt p n (h .z)) (pair .0) (pair .1)
+              (lent-laid n (witnessOf p n wire))
               (lent-values p n (h .z))
               (pass-of (isAccepted (h .r .answer)) _ (sym (h .checks .verdict) ∙ h .passes));
         }
@@ -202,7 +199,7 @@ module _ (p n l : ℕ) (selectors labels publics : List ℕ) where
         let challenges : List ℕ = pair .0 ∷ pair .1 ∷ [] in
         let drawn : Elements p 2 challenges = record { long = refl; below = (h .beta-element, (h .gamma-element, tt)) } in
         let answer : Answer = answerOf (rowsReasons p n l selectors labels lent publics values challenges) in
-        let verdict : RowVerdict = rowVerdict p n C x (lentWitness lent) (lentZ values) (pair .0) (pair .1) in
+        let verdict : RowVerdict = rowVerdict p n C x (lentWitness n lent) (lentZ values) (pair .0) (pair .1) in
         record {
           beta-element = h .beta-element;
           gamma-element = h .gamma-element;
@@ -213,11 +210,11 @@ module _ (p n l : ℕ) (selectors labels publics : List ℕ) where
           passes =
               answer-pass answer verdict
               (rows-taken A right rightX
-              (table-elements (witnessOf p n wire) (3 * n) (λ k u. mod-lt _ positive))
+              (laid-elements n (witnessOf p n wire) (λ k u. mod-lt _ positive))
               (evaluation-elements p n positive (h .z))
               drawn)
-              (same-pass p n C x (witnessOf p n wire) (lentWitness lent) (valueAt p n (h .z)) (lentZ values) (pair .0) (pair .1)
-              (λ k u. sym (lent-witness k u))
+              (same-pass p n C x (witnessOf p n wire) (lentWitness n lent) (valueAt p n (h .z)) (lentZ values) (pair .0) (pair .1)
+              (λ k u. sym (lent-laid n (witnessOf p n wire) k u))
               (λ i u. sym (lent-values p n (h .z) i u))
               (h .z-passes));
         }
@@ -230,16 +227,16 @@ module _ (p n : ℕ) (A : Admissible p n) (l : ℕ) (selectors labels publics : 
   two = field-prime p (A .one-of-three) .two
 
   honest-rows : (witness : List ℕ) → Elements p (witnessLength n) witness
-      → Satisfies p n (lentCircuit n selectors labels) (lentPublic publics) (lentWitness witness)
-      → (beta gamma : ℕ) → beta < p → gamma < p → zeroFactor p n (lentCircuit n selectors labels) (lentWitness witness) beta gamma ≡ n
+      → Satisfies p n (lentCircuit n selectors labels) (lentPublic publics) (lentWitness n witness)
+      → (beta gamma : ℕ) → beta < p → gamma < p → zeroFactor p n (lentCircuit n selectors labels) (lentWitness n witness) beta gamma ≡ n
       → (r : RowAnswer)
-      → ChecksRows p n l selectors labels witness publics (tab (rowZ p n (lentCircuit n selectors labels) (lentWitness witness) beta gamma) n) (beta ∷ gamma ∷ []) r
+      → ChecksRows p n l selectors labels witness publics (tab (rowZ p n (lentCircuit n selectors labels) (lentWitness n witness) beta gamma) n) (beta ∷ gamma ∷ []) r
       → r .verdict ≡ Pass
   honest-rows witness elements sat beta gamma hb hg nonzero r checks =
-      let Z : ℕ → ℕ = rowZ p n (lentCircuit n selectors labels) (lentWitness witness) beta gamma in
+      let Z : ℕ → ℕ = rowZ p n (lentCircuit n selectors labels) (lentWitness n witness) beta gamma in
       let drawn : Elements p 2 (beta ∷ gamma ∷ []) = record { long = refl; below = (hb, (hg, tt)) } in
       let verdict =
-      same-pass p n (lentCircuit n selectors labels) (lentPublic publics) (lentWitness witness) (lentWitness witness) Z (lentZ (tab Z n)) beta gamma
+      same-pass p n (lentCircuit n selectors labels) (lentPublic publics) (lentWitness n witness) (lentWitness n witness) Z (lentZ (tab Z n)) beta gamma
       (λ k u. refl)
       (λ i u. sym (getD-tab Z n i u))
       (demand-3 p n A .completeness _ _ _ sat beta gamma nonzero .z-passes) in
@@ -250,11 +247,11 @@ module _ (p n : ℕ) (A : Admissible p n) (l : ℕ) (selectors labels publics : 
       verdict
 
   honest-point : (witness : List ℕ)
-      → Satisfies p n (lentCircuit n selectors labels) (lentPublic publics) (lentWitness witness)
-      → (beta gamma : ℕ) → beta < p → gamma < p → zeroFactor p n (lentCircuit n selectors labels) (lentWitness witness) beta gamma ≡ n
+      → Satisfies p n (lentCircuit n selectors labels) (lentPublic publics) (lentWitness n witness)
+      → (beta gamma : ℕ) → beta < p → gamma < p → zeroFactor p n (lentCircuit n selectors labels) (lentWitness n witness) beta gamma ≡ n
       → (alpha zeta : ℕ) → alpha < p → zeta < p → (scratch scratch' : List ℕ) → length scratch ≡ scratchLength n → (r : PointAnswer)
       → PointChecks p n l publics (prepared p n (lentCircuit n selectors labels))
-      (proved p n (lentCircuit n selectors labels) (lentPublic publics) (lentWitness witness) beta gamma alpha)
+      (proved p n (lentCircuit n selectors labels) (lentPublic publics) (lentWitness n witness) beta gamma alpha)
       (beta ∷ gamma ∷ alpha ∷ zeta ∷ []) scratch r scratch'
       → r .verdict ≡ judged.Accept
   honest-point witness sat beta gamma hb hg nonzero alpha zeta ha hz scratch scratch' long r checks =
@@ -263,7 +260,7 @@ module _ (p n : ℕ) (A : Admissible p n) (l : ℕ) (selectors labels publics : 
       ∙ answer-accept _ _
       (checks .answer
       ∙ point-taken A scratch rightX (demand-3 p n A .prepared-long (lentCircuit n selectors labels))
-      (demand-3 p n A .proved-long (lentCircuit n selectors labels) (lentPublic publics) (lentWitness witness) beta gamma alpha)
+      (demand-3 p n A .proved-long (lentCircuit n selectors labels) (lentPublic publics) (lentWitness n witness) beta gamma alpha)
       drawn
       long)
       (demand-3 p n A .completeness _ _ _ sat beta gamma nonzero .accepted alpha zeta)
