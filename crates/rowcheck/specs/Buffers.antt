@@ -1,38 +1,37 @@
 -- What the inner functions ask of their buffers, and a test of a verdict.
 --
 -- Checked p n selectors labels witness z challenges   what `check_rows` has checked: p and n are admissible, lengths and labels are right
--- Lent p n witness z own wired   there is a row, there are at most 1,024, and the lengths are right
+-- StepLent p n witness z own wired   p is not 0, there are at most 1,024 rows, and the lengths are right
 -- Tags p n labels own wired      the tags of the positions, and of those that the permutation of the labels leads to
 -- isPass v    the verdict is that every row holds
--- Few         the buffers are short enough that a place in them is a number of the machine
 --
 -- Assumes nothing.
 use mathlib.Core.Path.{_≡_}
 use mathlib.Core.Bool.{Bool, true, false}
 use mathlib.Core.List.{List}
-use Prim.Native.Nat.{ℕ, _+_, _*_, _≤_, _<_}
+use Prim.Native.Nat.{ℕ, _*_, _≤_, _<_}
 use lib.ListN.{length, getD}
 use Rattle.algebra.specs.Lists.{tab}
 use Rattle.field.specs.Fields.{Admissible, tag}
 use Rattle.circuit.specs.Circuit.{permutation}
+use Rattle.circuit.specs.Buffers.{selectorsLength, labelsLength, witnessLength}
 use Rattle.circuit.specs.Ahead.{Labels}
 use Rattle.rowcheck.specs.declared.Verdict.{Verdict}
 use Rattle.rowcheck.specs.declared.Verdict.the-variants.{None, Pass, Fails}
 
 pub record Checked (p n : ℕ) (selectors labels witness z challenges : List ℕ) : Type 0 where
   pub admissible : Admissible p n
-  pub selectors-length : length selectors ≡ 5 * n
-  pub labels-length : length labels ≡ 3 * n
+  pub selectors-length : length selectors ≡ selectorsLength n
+  pub labels-length : length labels ≡ labelsLength n
   pub labels-right : Labels labels
-  pub witness-length : length witness ≡ 3 * n
+  pub witness-length : length witness ≡ witnessLength n
   pub z-length : length z ≡ n
   pub challenges-length : length challenges ≡ 2
 
-pub record Lent (p n : ℕ) (witness z own wired : List ℕ) : Type 0 where
+pub record StepLent (p n : ℕ) (witness z own wired : List ℕ) : Type 0 where
   pub modulus : 0 < p
-  pub rows : 0 < n
   pub few : n ≤ 1024
-  pub witness-length : length witness ≡ 3 * n
+  pub witness-length : length witness ≡ witnessLength n
   pub z-length : length z ≡ n
   pub own-length : length own ≡ 3 * n
   pub wired-length : length wired ≡ 3 * n
@@ -45,8 +44,3 @@ abbrev pub isPass : Verdict → Bool
 isPass None = false
 isPass Pass = true
 isPass (Fails id i) = false
-
-pub record Few (n : ℕ) (selectors labels witness publics z challenges : List ℕ) : Type 0 where
-  pub rows : n ≤ 1024
-  pub elements : length selectors + length witness + length publics + length z + length challenges ≤ 65536
-  pub labels-few : length labels ≤ 65536

@@ -40,5 +40,5 @@ pub record ChecksRows (p n l : ℕ) (selectors labels witness publics z challeng
   pub verdict :
       r .verdict
       ≡ cond (isAccepted (r .answer))
-      (verdictOf (rowVerdict p n (lentCircuit n selectors labels) (lentPublic publics) (lentWitness witness) (lentZ z) (getD challenges 0 0) (getD challenges 1 0)))
+      (verdictOf (rowVerdict p n (lentCircuit n selectors labels) (lentPublic publics) (lentWitness n witness) (lentZ z) (getD challenges 0 0) (getD challenges 1 0)))
       None

@@ -45,7 +45,7 @@ fn work(
     challenges: &[u32],
 ) -> Verdict
     requires { ⌜ Checked p n (now selectors) (now labels) (now witness) (now z) (now challenges) ⌝ }
-    ensures { λ r. ⌜ r ≡ verdictOf (rowVerdict p n (lentCircuit n (now (selectors .entry)) (now (labels .entry))) (lentPublic (now (publics .entry))) (lentWitness (now (witness .entry))) (lentZ (now (z .entry))) (getD (now (challenges .entry)) 0 0) (getD (now (challenges .entry)) 1 0)) ⌝ }
+    ensures { λ r. ⌜ r ≡ verdictOf (rowVerdict p n (lentCircuit n (now (selectors .entry)) (now (labels .entry))) (lentPublic (now (publics .entry))) (lentWitness n (now (witness .entry))) (lentZ (now (z .entry))) (getD (now (challenges .entry)) 0 0) (getD (now (challenges .entry)) 1 0)) ⌝ }
 {
     let m = n as usize;
     let k = 3 * m;

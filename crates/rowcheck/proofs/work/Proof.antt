@@ -45,12 +45,10 @@ shared-slice-read-judge-rows-2 c = search needs
 
 judge-rows-requires : tie.Need-judge-rows-requires
 judge-rows-requires c κs =
-    let s = c .before .before .before .before .before .before .before .before .before .before .before .before in
-    let rows = rows-power _ _ (s .pre .admissible .rows) in (
+    let s = c .before .before .before .before .before .before .before .before .before .before .before .before in (
       record {
         modulus = omega (arith, field-prime _ (s .pre .admissible .one-of-three) .two);
-        rows = omega (arith, rows .least);
-        few = rows .small;
+        few = rows-power _ _ (s .pre .admissible .rows) .small;
         witness-length = s .pre .witness-length;
         z-length = s .pre .z-length;
         own-length = length-take-le _ _ (own-fits (c .before .before .before .before .before));

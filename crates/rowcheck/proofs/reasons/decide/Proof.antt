@@ -1,73 +1,133 @@
--- `rowcheck::reasons::decide` meets its contract: the three parts of the reasons, in order. Assumes nothing.
+-- `rowcheck::reasons::decide` meets its contract: the reasons of p, n, l and the lengths, then those of the numbers. Assumes nothing.
+use mathlib.Core.Path.{_≡_, refl, sym, ap, ap₂, _∙_}
 use mathlib.Core.Logic.{_≢_}
-use mathlib.Core.List.{List, _++_}
-use lib.ListN.{length}
+use mathlib.Core.List.{List, [], _∷_, _++_, append-assoc}
+use Prim.Native.Nat.{ℕ, _+_, _*_, _≤_}
+use native.Mathlib.Omega.{arith}
+use lib.ListN.{length, length-append}
 use borrow.Author.Needs.{needs}
 use Rattle.algebra.specs.Lists.{All}
+use Rattle.field.specs.Lent.{lent-numbers, lent-of}
 use Rattle.field.specs.Primes.{rows-power}
-use Rattle.field.specs.Reasons.{Reason}
-use Rattle.field.specs.ReasonLaws.{refused-first, refused-later}
-use Rattle.circuit.specs.Reasons.{shapeReasons, rowsLengths, rowsNumbers}
-use Rattle.circuit.specs.Shape.{Shape, shaped, shape-numbers}
-use Rattle.rowcheck.proofs.Decided.{length-numbers, few}
+use Rattle.field.specs.Reasons.{Reason, answerOf, lentReasons, reasonAt, firstAbove}
+use Rattle.field.specs.ReasonLaws.{refused-first, refused-later, further}
+use Rattle.circuit.specs.Reasons.{rowsDue, numberReasons, badLabel}
 use Rattle.rowcheck.proofs.reasons.decide.Statement.{statement}
 use Rattle.rowcheck.proofs.reasons.decide.Tie as tie
 
--- the three parts
+-- the two parts
+abbrev long : tie.Start → List ℕ
+long s =
+    length (s .args .selectors .now) ∷ length (s .args .labels .now) ∷ length (s .args .witness .now) ∷ length (s .args .publics .now) ∷ length (s .args .z .now) ∷ length (s .args .challenges .now) ∷ []
+
 abbrev first : tie.Start → List Reason
-first s = shapeReasons (s .args .p) (s .args .n) (s .args .l)
+first s = lentReasons (s .args .p) (s .args .n) (s .args .l) (long s) (rowsDue (s .args .n) (s .args .l))
+
+-- the numbers of the first four buffers end to end, and of all five
+abbrev four : tie.Start → List ℕ
+four s = s .args .selectors .now ++ (s .args .witness .now ++ (s .args .publics .now ++ s .args .z .now))
+
+abbrev five : tie.Start → List ℕ
+five s = s .args .selectors .now ++ (s .args .witness .now ++ (s .args .publics .now ++ (s .args .z .now ++ s .args .challenges .now)))
 
 abbrev second : tie.Start → List Reason
-second s = rowsLengths (s .args .n) (s .args .l) (length (s .args .selectors .now)) (length (s .args .labels .now)) (length (s .args .witness .now)) (length (s .args .publics .now)) (length (s .args .z .now)) (length (s .args .challenges .now))
+second s = numberReasons (s .args .p) (s .args .n) (five s) (s .args .labels .now)
 
-abbrev third : tie.Start → List Reason
-third s = rowsNumbers (s .args .p) (s .args .n) (s .args .selectors .now) (s .args .labels .now) (s .args .witness .now) (s .args .publics .now) (s .args .z .now) (s .args .challenges .now)
-
--- none of their reasons has number 0
 first-right : (s : tie.Start) → All (λ r. r .number ≢ 0) (first s)
-first-right s = shape-numbers (s .args .p) (s .args .n) (s .args .l)
+first-right s = lent-numbers (s .args .p) (s .args .n) (s .args .l) (long s) (rowsDue (s .args .n) (s .args .l))
 
-second-right : (s : tie.Start) → All (λ r. r .number ≢ 0) (second s)
-second-right s = length-numbers (s .args .n) (s .args .l) (length (s .args .selectors .now)) (length (s .args .labels .now)) (length (s .args .witness .now)) (length (s .args .publics .now)) (length (s .args .z .now)) (length (s .args .challenges .now))
+abbrev start : tie.After-decide-lent → tie.Start
+start c = c .before .before .before .before .before .before .before .before .before .before
 
--- the call, and what is known of p, n and l, past the first part
-abbrev start : tie.Else1 → tie.Start
-start c = c .before .before .before .before .before .before .before .before
+decided : (c : tie.After-decide-lent) → c .decide-lent .result ≡ answerOf (first (start c))
+decided c =
+    let s = start c in
+    c .decide-lent .ensures ∙ ap (λ (due : List ℕ). answerOf (lentReasons (s .args .p) (s .args .n) (s .args .l) (long s) due)) (c .before .before .before .rows .ensures)
 
-shape-known : (c : tie.Else1) → Shape (start c .args .p) (start c .args .n) (start c .args .l)
-shape-known c = shaped _ _ _ _ (c .before .decide-shape .ensures) (c .if1 .left)
+-- what is known past the first part: places in the buffers are numbers of the machine
+long-four : (s : tie.Start) → length (s .args .selectors .now) + length (s .args .witness .now) + length (s .args .publics .now) + length (s .args .z .now) ≡ length (four s)
+long-four s = simp length-append (omega arith)
 
-decide-shape-requires : tie.Need-decide-shape-requires
-decide-shape-requires c κs = search needs
+long-five : (s : tie.Start) → length (four s) + length (s .args .challenges .now) ≡ length (five s)
+long-five s = simp length-append (omega arith)
+
+few : (c : tie.Else1) → (start (c .before) .args .n ≤ 1024) × (length (four (start (c .before))) + length (start (c .before) .args .challenges .now) ≤ 65536) × (length (start (c .before) .args .labels .now) ≤ 65536)
+few c =
+    let s = start (c .before) in
+    let lent = lent-of (s .args .p) (s .args .n) (s .args .l) (long s) (rowsDue (s .args .n) (s .args .l)) refl (sym (ap (λ a. a .number) (decided (c .before))) ∙ c .if1 .left) in
+    let small : s .args .n ≤ 1024 = rows-power _ _ (lent .admissible .rows) .small in
+    let least : s .args .l ≤ s .args .n = lent .publics-few in
+    let a : length (s .args .selectors .now) ≡ 5 * s .args .n = cc (lent .lengths) in
+    let b : length (s .args .labels .now) ≡ 3 * s .args .n = cc (lent .lengths) in
+    let d : length (s .args .witness .now) ≡ 3 * s .args .n = cc (lent .lengths) in
+    let e : length (s .args .publics .now) ≡ s .args .l = cc (lent .lengths) in
+    let f : length (s .args .z .now) ≡ s .args .n = cc (lent .lengths) in
+    let g : length (s .args .challenges .now) ≡ 2 = cc (lent .lengths) in
+    (small, omega (arith, long-four s), omega arith)
+
+rows-requires : tie.Need-rows-requires
+rows-requires c κs = search needs
+
+slice-aggregate-decide-lent : tie.Need-slice-aggregate-decide-lent
+slice-aggregate-decide-lent c = search needs
+
+slice-aggregate-decide-lent-2 : tie.Need-slice-aggregate-decide-lent-2
+slice-aggregate-decide-lent-2 c = search needs
+
+decide-lent-requires : tie.Need-decide-lent-requires
+decide-lent-requires c κs = search needs
 
 returns : tie.Need-returns
-returns c =
-    let s = c .before .before .before .before .before .before .before .before in
-    refused-first (first s) (second s ++ third s) (first-right s) _ (c .before .decide-shape .ensures) (c .if1 .taken)
+returns c = refused-first (first (start (c .before))) (second (start (c .before))) (first-right (start (c .before))) _ (decided (c .before)) (c .if1 .taken)
 
-lengths-requires : tie.Need-lengths-requires
-lengths-requires c κs = rows-power _ _ (shape-known c .admissible .rows) .small
+first-of-four-requires : tie.Need-first-of-four-requires
+first-of-four-requires c κs = omega (arith, few c .1, long-four (start (c .before)))
+
+add-four : tie.Need-add-four
+add-four c = search needs
+
+add-four-2 : tie.Need-add-four-2
+add-four-2 c = search needs
+
+add-four-3 : tie.Need-add-four-3
+add-four-3 c = search needs
+
+then-above-requires : tie.Need-then-above-requires
+then-above-requires c κs = omega (arith, few (c .before) .1, long-four (start (c .before .before)))
+
+add-decide-numbers : tie.Need-add-decide-numbers
+add-decide-numbers c = search needs
+
+decide-numbers-requires : tie.Need-decide-numbers-requires
+decide-numbers-requires c κs =
+    let known = few (c .before .before) in
+    (known .0, omega (arith, known .1, long-four (start (c .before .before .before))), known .2)
 
 returns-2 : tie.Need-returns-2
 returns-2 c =
-    let d = c .before .before in
+    let d = c .before .before .before .before in
     let s = start d in
-    refused-later (first s) (second s ++ third s) (first-right s) _ _ (d .before .decide-shape .ensures) (d .if1 .left)
-    (refused-first (second s) (third s) (second-right s) _ (c .before .lengths .ensures) (c .if2 .taken))
-
-numbers-requires : tie.Need-numbers-requires
-numbers-requires c κs =
-    let s = start (c .before .before) in
-    few (s .args .p) (s .args .n) (s .args .l) (s .args .selectors .now) (s .args .labels .now) (s .args .witness .now) (s .args .publics .now) (s .args .z .now) (s .args .challenges .now) _ (shape-known (c .before .before)) (c .before .lengths .ensures) (c .if2 .left)
-
-returns-3 : tie.Need-returns-3
-returns-3 c =
-    let d = c .before .before .before in
-    let s = start d in
-    refused-later (first s) (second s ++ third s) (first-right s) _ _ (d .before .decide-shape .ensures) (d .if1 .left)
-    (refused-later (second s) (third s) (second-right s) _ _ (c .before .before .lengths .ensures) (c .before .if2 .left) (c .numbers .ensures))
+    let place : c .before .then-above .result ≡ firstAbove (s .args .p) (five s) =
+    further (s .args .p) (four s) (s .args .challenges .now) _ _ _ (c .before .before .first-of-four .ensures) (long-four s) (c .before .then-above .ensures)
+    ∙ ap (firstAbove (s .args .p)) (simp append-assoc) in
+    refused-later (first s) (second s) (first-right s) _ _ (decided d) (c .before .before .before .if1 .left)
+    (c .decide-numbers .ensures
+    ∙ ap₂ (λ (at count : ℕ). answerOf (reasonAt 7 at count ∷ badLabel (s .args .n) (s .args .labels .now) ∷ [])) place (ap (λ (k : ℕ). k + length (s .args .challenges .now)) (long-four s) ∙ long-five s))
 
 pub decide-spec : {M : Type 1} → statement M
 decide-spec =
     tie.close
-    (tie.spec decide-shape-requires returns lengths-requires returns-2 numbers-requires returns-3)
+    (tie.spec
+    rows-requires
+    slice-aggregate-decide-lent
+    slice-aggregate-decide-lent-2
+    decide-lent-requires
+    returns
+    first-of-four-requires
+    add-four
+    add-four-2
+    add-four-3
+    then-above-requires
+    add-decide-numbers
+    decide-numbers-requires
+    returns-2)

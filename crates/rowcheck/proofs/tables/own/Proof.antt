@@ -3,8 +3,9 @@ use mathlib.Core.Path.{_≡_, sym, ap, _∙_}
 use Prim.Native.Nat.{_*_, _≤_}
 use native.Mathlib.Omega.{arith}
 use lib.ListN.{length, take}
-use lib.Seq.{take-at, length-take-le, length-front}
+use lib.Seq.{length-take-le}
 use borrow.Author.Needs.{needs}
+use Rattle.algebra.specs.Ends.{front-array}
 use Rattle.algebra.specs.Lists.{tab}
 use Rattle.field.specs.Fields.{tag}
 use Rattle.field.specs.Primes.{rows-power}
@@ -53,12 +54,9 @@ returns : tie.Need-returns
 returns c =
     let written = c .before .own-tags in
     let d = c .before .before .before .before in
-    let blank = d .before .blank-3072 .result in
     let a = d .before .before .args in
-    let long = tags-long d in (
-      d .before .blank-3072 .ensures ∙ sym (length-front blank (written .last .1 .1 .1 .0) (3 * a .n) (written .kept .1 .1 .1 .0)),
-      take-at (written .last .1 .1 .1 .0) _ (3 * a .n) (written .kept .1 .1 .1 .0 ∙ long) ∙ written .ensures ∙ ap (tab (tag (a .p) (a .n))) long,
-    )
+    front-array (3 * a .n) (d .before .blank-3072 .result) (written .last .1 .1 .1 .0) (tags-fit d) (written .kept .1 .1 .1 .0) 3072 _ (d .before .blank-3072 .ensures)
+    (written .ensures ∙ ap (tab (tag (a .p) (a .n))) (tags-long d))
 
 pub own-spec : {M : Type 1} → statement M
 own-spec =

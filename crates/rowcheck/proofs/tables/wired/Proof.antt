@@ -1,10 +1,11 @@
 -- `rowcheck::tables::wired` meets its contract: the tags are written into the first 3n words of the array. Assumes nothing.
-use mathlib.Core.Path.{sym, _∙_}
+use mathlib.Core.Path.{sym}
 use Prim.Native.Nat.{_*_, _≤_}
 use native.Mathlib.Omega.{arith}
 use lib.ListN.{length}
-use lib.Seq.{take-at, length-take-le, length-front}
+use lib.Seq.{length-take-le}
 use borrow.Author.Needs.{needs}
+use Rattle.algebra.specs.Ends.{front-array}
 use Rattle.field.specs.Primes.{rows-power}
 use Rattle.rowcheck.proofs.tables.wired.Statement.{statement}
 use Rattle.rowcheck.proofs.tables.wired.Tie as tie
@@ -47,12 +48,7 @@ returns : tie.Need-returns
 returns c =
     let written = c .before .wired-tags in
     let d = c .before .before .before .before in
-    let blank = d .before .blank-3072 .result in
-    let a = d .before .before .before .args in
-    let long = length-take-le _ _ (tags-fit d) in (
-      d .before .blank-3072 .ensures ∙ sym (length-front blank (written .last .1 .1 .1 .1 .0) (3 * a .n) (written .kept .1 .1 .1 .1 .0)),
-      take-at (written .last .1 .1 .1 .1 .0) _ (3 * a .n) (written .kept .1 .1 .1 .1 .0 ∙ long) ∙ written .ensures,
-    )
+    front-array (3 * d .before .before .before .args .n) (d .before .blank-3072 .result) (written .last .1 .1 .1 .1 .0) (tags-fit d) (written .kept .1 .1 .1 .1 .0) 3072 _ (d .before .blank-3072 .ensures) (written .ensures)
 
 pub wired-spec : {M : Type 1} → statement M
 wired-spec =
