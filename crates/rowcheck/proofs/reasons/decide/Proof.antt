@@ -1,48 +1,35 @@
 -- `rowcheck::reasons::decide` meets its contract: the reasons of p, n, l and the lengths, then those of the numbers. Assumes nothing.
-use mathlib.Core.Path.{_≡_, refl, sym, ap, ap₂, _∙_}
-use mathlib.Core.Logic.{_≢_}
+use mathlib.Core.Path.{_≡_, refl, ap, ap₂, _∙_}
 use mathlib.Core.List.{List, [], _∷_, _++_, append-assoc}
 use Prim.Native.Nat.{ℕ, _+_, _*_, _≤_}
 use native.Mathlib.Omega.{arith}
 use lib.ListN.{length, length-append}
 use borrow.Author.Needs.{needs}
-use Rattle.algebra.specs.Lists.{All}
-use Rattle.field.specs.Lent.{lent-numbers, lent-of}
+use Rattle.field.specs.Lent.{lent-refused, lent-later, lent-known}
 use Rattle.field.specs.Primes.{rows-power}
-use Rattle.field.specs.Reasons.{Reason, answerOf, lentReasons, reasonAt, firstAbove}
-use Rattle.field.specs.ReasonLaws.{refused-first, refused-later, further}
+use Rattle.field.specs.Reasons.{Reason, answerOf, reasonAt, firstAbove}
+use Rattle.field.specs.ReasonLaws.{further}
 use Rattle.circuit.specs.Reasons.{rowsDue, numberReasons, badLabel}
 use Rattle.rowcheck.proofs.reasons.decide.Statement.{statement}
 use Rattle.rowcheck.proofs.reasons.decide.Tie as tie
 
--- the two parts
+-- the lengths
 abbrev long : tie.Start → List ℕ
 long s =
     length (s .args .selectors .now) ∷ length (s .args .labels .now) ∷ length (s .args .witness .now) ∷ length (s .args .publics .now) ∷ length (s .args .z .now) ∷ length (s .args .challenges .now) ∷ []
 
-abbrev first : tie.Start → List Reason
-first s = lentReasons (s .args .p) (s .args .n) (s .args .l) (long s) (rowsDue (s .args .n) (s .args .l))
-
--- the numbers of the first four buffers end to end, and of all five
+-- the numbers of the first four buffers end to end, and of all five; the reasons behind those of the lengths
 abbrev four : tie.Start → List ℕ
 four s = s .args .selectors .now ++ (s .args .witness .now ++ (s .args .publics .now ++ s .args .z .now))
 
 abbrev five : tie.Start → List ℕ
 five s = s .args .selectors .now ++ (s .args .witness .now ++ (s .args .publics .now ++ (s .args .z .now ++ s .args .challenges .now)))
 
-abbrev second : tie.Start → List Reason
-second s = numberReasons (s .args .p) (s .args .n) (five s) (s .args .labels .now)
-
-first-right : (s : tie.Start) → All (λ r. r .number ≢ 0) (first s)
-first-right s = lent-numbers (s .args .p) (s .args .n) (s .args .l) (long s) (rowsDue (s .args .n) (s .args .l))
+abbrev rest : tie.Start → List Reason
+rest s = numberReasons (s .args .p) (s .args .n) (five s) (s .args .labels .now)
 
 abbrev start : tie.After-decide-lent → tie.Start
 start c = c .before .before .before .before .before .before .before .before .before .before
-
-decided : (c : tie.After-decide-lent) → c .decide-lent .result ≡ answerOf (first (start c))
-decided c =
-    let s = start c in
-    c .decide-lent .ensures ∙ ap (λ (due : List ℕ). answerOf (lentReasons (s .args .p) (s .args .n) (s .args .l) (long s) due)) (c .before .before .before .rows .ensures)
 
 -- what is known past the first part: places in the buffers are numbers of the machine
 long-four : (s : tie.Start) → length (s .args .selectors .now) + length (s .args .witness .now) + length (s .args .publics .now) + length (s .args .z .now) ≡ length (four s)
@@ -54,7 +41,7 @@ long-five s = simp length-append (omega arith)
 few : (c : tie.Else1) → (start (c .before) .args .n ≤ 1024) × (length (four (start (c .before))) + length (start (c .before) .args .challenges .now) ≤ 65536) × (length (start (c .before) .args .labels .now) ≤ 65536)
 few c =
     let s = start (c .before) in
-    let lent = lent-of (s .args .p) (s .args .n) (s .args .l) (long s) (rowsDue (s .args .n) (s .args .l)) refl (sym (ap (λ a. a .number) (decided (c .before))) ∙ c .if1 .left) in
+    let lent = lent-known (s .args .p) (s .args .n) (s .args .l) (long s) (rowsDue (s .args .n) (s .args .l)) (rest s) (c .before .before .before .before .rows .ensures) (c .before .decide-lent .ensures) (c .if1 .left) refl in
     let small : s .args .n ≤ 1024 = rows-power _ _ (lent .admissible .rows) .small in
     let least : s .args .l ≤ s .args .n = lent .publics-few in
     let a : length (s .args .selectors .now) ≡ 5 * s .args .n = cc (lent .lengths) in
@@ -78,7 +65,9 @@ decide-lent-requires : tie.Need-decide-lent-requires
 decide-lent-requires c κs = search needs
 
 returns : tie.Need-returns
-returns c = refused-first (first (start (c .before))) (second (start (c .before))) (first-right (start (c .before))) _ (decided (c .before)) (c .if1 .taken)
+returns c =
+    let s = start (c .before) in
+    lent-refused (s .args .p) (s .args .n) (s .args .l) (long s) (rowsDue (s .args .n) (s .args .l)) (rest s) (c .before .before .before .before .rows .ensures) (c .before .decide-lent .ensures) (c .if1 .taken)
 
 first-of-four-requires : tie.Need-first-of-four-requires
 first-of-four-requires c κs = omega (arith, few c .1, long-four (start (c .before)))
@@ -110,7 +99,7 @@ returns-2 c =
     let place : c .before .then-above .result ≡ firstAbove (s .args .p) (five s) =
     further (s .args .p) (four s) (s .args .challenges .now) _ _ _ (c .before .before .first-of-four .ensures) (long-four s) (c .before .then-above .ensures)
     ∙ ap (firstAbove (s .args .p)) (simp append-assoc) in
-    refused-later (first s) (second s) (first-right s) _ _ (decided d) (c .before .before .before .if1 .left)
+    lent-later (s .args .p) (s .args .n) (s .args .l) (long s) (rowsDue (s .args .n) (s .args .l)) (rest s) (d .before .before .before .rows .ensures) (d .decide-lent .ensures) (c .before .before .before .if1 .left)
     (c .decide-numbers .ensures
     ∙ ap₂ (λ (at count : ℕ). answerOf (reasonAt 7 at count ∷ badLabel (s .args .n) (s .args .labels .now) ∷ [])) place (ap (λ (k : ℕ). k + length (s .args .challenges .now)) (long-four s) ∙ long-five s))
 
