@@ -17,6 +17,7 @@ use lib.ListN.{length, replicate}
 use borrow.Author.Tests.{lt-ltb, le-ltb}
 use Rattle.algebra.specs.Lists.{tab}
 use Rattle.algebra.specs.Tables.{tab-ext, tab-add, tab-const}
+use Rattle.circuit.specs.Buffers.{selectorsLength, labelsLength, witnessLength}
 use Rattle.sheet.specs.Sheet.{padded}
 use Rattle.sheet.specs.Table.{Fits, Full}
 
@@ -32,14 +33,14 @@ block-fits t width row col c count some lines long fields few =
     inside a b g h = omega arith
 
 module _ (n l : ℕ) (t : List ℕ) (full : Full n l t) where
-  pub selectors-fit : Fits t n 1 0 (5 * n)
-  selectors-fit = block-fits t n 1 0 5 (5 * n) (full .some) (omega arith) (full .long) (omega arith) (omega arith)
+  pub selectors-fit : {m : ℕ} → m ≡ selectorsLength n → Fits t n 1 0 m
+  selectors-fit {m} e = block-fits t n 1 0 5 m (full .some) (omega arith) (full .long) (omega arith) (omega arith)
 
-  pub labels-fit : Fits t n 1 5 (3 * n)
-  labels-fit = block-fits t n 1 5 3 (3 * n) (full .some) (omega arith) (full .long) (omega arith) (omega arith)
+  pub labels-fit : {m : ℕ} → m ≡ labelsLength n → Fits t n 1 5 m
+  labels-fit {m} e = block-fits t n 1 5 3 m (full .some) (omega arith) (full .long) (omega arith) (omega arith)
 
-  pub witness-fit : Fits t n (n + 1) 0 (3 * n)
-  witness-fit = block-fits t n (n + 1) 0 3 (3 * n) (full .some) (omega arith) (full .long) (omega arith) (omega arith)
+  pub witness-fit : {m : ℕ} → m ≡ witnessLength n → Fits t n (n + 1) 0 m
+  witness-fit {m} e = block-fits t n (n + 1) 0 3 m (full .some) (omega arith) (full .long) (omega arith) (omega arith)
 
   pub publics-fit : Fits t n (n + n + 1) 0 l
   publics-fit = block-fits t n (n + n + 1) 0 1 l (full .some) (omega arith) (full .long) (omega arith) (omega arith)

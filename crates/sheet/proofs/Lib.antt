@@ -2,6 +2,5 @@
 pub mod BlockLaws
 pub mod LineLaws
 pub mod TableLaws
-pub mod ElementLaws
 pub mod Decided
 pub mod Reading

@@ -13,7 +13,7 @@
 --
 -- Assumes nothing.
 use mathlib.Core.Path.{_≡_, refl, sym, ap, ap₂, _∙_}
-use mathlib.Core.Bool.{Bool, true, false, not, cond}
+use mathlib.Core.Bool.{Bool, not}
 use mathlib.Core.List.{List, _++_}
 use Prim.Native.Nat.{ℕ, _+_, _*_, _-_, _≤_, _<_}
 use native.Mathlib.Decide.{decLt}
@@ -31,6 +31,7 @@ use Rattle.algebra.specs.Tables.{length-tab, getD-tab}
 use Rattle.text.specs.Text.{numberAt, fieldAt, isLineAt}
 use Rattle.sheet.specs.Sheet.{fieldsDue, linesDue, lineAt, numberOf, badLine}
 use Rattle.sheet.specs.Table.{Held}
+use Rattle.sheet.specs.ReadBack.{picked}
 
 module _ (n l i : ℕ) where
   pub due-circuit : 0 < i → i ≤ n → fieldsDue n l i ≡ 8
@@ -51,17 +52,12 @@ module _ (n l i : ℕ) where
   due-challenges g =
       rw (ne-eqb i 0 (λ u. omega arith), lt-leb i n (omega arith), lt-leb i (n + n) (omega arith), lt-leb i (n + n + l) g)
 
-either : (P : ℕ → Type 0) (b : Bool) {x y : ℕ} → P x → P y → P (cond b x y)
-either P true p q = p
-either P false p q = q
-
 pub due-most : (n l i : ℕ) → fieldsDue n l i ≤ 8
 unfolding fieldsDue
 due-most n l i =
-    either (λ m. m ≤ 8) (eqb i 0) (omega arith)
-    (either (λ m. m ≤ 8) (leb i n) (omega arith)
-    (either (λ m. m ≤ 8) (leb i (n + n)) (omega arith)
-    (either (λ m. m ≤ 8) (leb i (n + n + l)) (omega arith) (omega arith))))
+    let P : ℕ → Type 0 = λ m. m ≤ 8 in
+    picked P (eqb i 0) (omega arith)
+    (picked P (leb i n) (omega arith) (picked P (leb i (n + n)) (omega arith) (picked P (leb i (n + n + l)) (omega arith) (omega arith))))
 
 abbrev pub isBad : List ℕ → ℕ → ℕ → ℕ → Bool
 isBad s n l i = not (isLineAt s (lineAt s n l i) (fieldsDue n l i))

@@ -6,22 +6,23 @@
 -- read-refused     a reason applies, and nothing is written
 --
 -- Assumes nothing.
-use mathlib.Core.Path.{_≡_, sym, ap, _∙_}
-use mathlib.Core.List.{List}
-use Prim.Native.Nat.{ℕ, _*_}
+use mathlib.Core.Path.{_≡_, refl, sym, ap, _∙_}
+use mathlib.Core.List.{List, [], _∷_}
+use Prim.Native.Nat.{ℕ}
 use lib.ListN.{length}
 use borrow.Author.Tests.{eq-eqb, ne-eqb}
+use Rattle.circuit.specs.Buffers.{selectorsLength, labelsLength, witnessLength}
 use Rattle.sheet.specs.declared.SheetAnswer.{SheetAnswer}
-use Rattle.sheet.specs.Sheet.{sheetN, sheetL, onSelectors, onLabels, onWitness, onPublics, onChallenges}
+use Rattle.sheet.specs.Sheet.{sheetRows, sheetN, sheetL, onSelectors, onLabels, onWitness, onPublics, onChallenges}
 use Rattle.sheet.specs.Table.{Full, Room, Laid, selectorsIn, labelsIn, witnessIn, publicsIn, challengesIn}
-use Rattle.sheet.specs.Deciding.{Decides}
+use Rattle.sheet.specs.Deciding.{Decides, Taken, taken-of}
 use Rattle.sheet.specs.Promises.{Reads}
 use Rattle.sheet.proofs.BlockLaws.{padded-same}
 use Rattle.sheet.proofs.TableLaws.{selectors-same, labels-same, witness-same, publics-same, challenges-same}
-use Rattle.sheet.proofs.Decided.{full, roomy}
+use Rattle.sheet.proofs.Decided.{full-of, roomy}
 
 module _ (s selectors labels witness publics challenges : List ℕ) (r : SheetAnswer) (t : List ℕ)
-    (d : Decides s (length selectors) (length labels) (length witness) (length publics) (length challenges) r t) where
+    (d : Decides s (length s ∷ length selectors ∷ length labels ∷ length witness ∷ length publics ∷ length challenges ∷ []) r t) where
   module _ (zero : r .answer .number ≡ 0) where
     rows : r .n ≡ sheetN s
     rows = d .n-is ∙ rw (eq-eqb (r .answer .number) 0 zero)
@@ -29,12 +30,15 @@ module _ (s selectors labels witness publics challenges : List ℕ) (r : SheetAn
     inputs : r .l ≡ sheetL s
     inputs = d .l-is ∙ rw (eq-eqb (r .answer .number) 0 zero)
 
+    taken : Taken s (length s ∷ length selectors ∷ length labels ∷ length witness ∷ length publics ∷ length challenges ∷ [])
+    taken = taken-of s _ refl (ap (λ a. a .number) (sym (d .answer)) ∙ zero)
+
     pub buffers : Room selectors labels witness publics challenges
-    buffers = roomy s selectors labels witness publics challenges (ap (λ a. a .number) (sym (d .answer)) ∙ zero)
+    buffers = roomy s selectors labels witness publics challenges taken
 
     module _ (long : length t ≡ 6160) where
       filled : Full (sheetN s) (sheetL s) t
-      filled = full s selectors labels witness publics challenges (ap (λ a. a .number) (sym (d .answer)) ∙ zero) t long
+      filled = full-of t (taken .shape) long
 
       pub ready : (t' : List ℕ) → t' ≡ t → Full (r .n) (r .l) t'
       ready t' e = rw (e, rows, inputs) filled
@@ -53,10 +57,10 @@ module _ (s selectors labels witness publics challenges : List ℕ) (r : SheetAn
             p-is = d .p-is;
             n-is = d .n-is;
             l-is = d .l-is;
-            selectors-laid = rw accepted (same .selectors-laid ∙ padded-same 1280 (5 * n) (selectorsIn t n) (onSelectors s n l) (selectors-same s n l t filled held));
-            labels-laid = rw accepted (same .labels-laid ∙ padded-same 768 (3 * n) (labelsIn t n) (onLabels s n l) (labels-same s n l t filled held));
-            witness-laid = rw accepted (same .witness-laid ∙ padded-same 768 (3 * n) (witnessIn t n) (onWitness s n l) (witness-same s n l t filled held));
-            publics-laid = rw accepted (same .publics-laid ∙ padded-same 256 l (publicsIn t n) (onPublics s n l) (publics-same s n l t filled held));
+            selectors-laid = rw accepted (same .selectors-laid ∙ padded-same (selectorsLength sheetRows) (selectorsLength n) (selectorsIn t n) (onSelectors s n l) (selectors-same s n l t filled held));
+            labels-laid = rw accepted (same .labels-laid ∙ padded-same (labelsLength sheetRows) (labelsLength n) (labelsIn t n) (onLabels s n l) (labels-same s n l t filled held));
+            witness-laid = rw accepted (same .witness-laid ∙ padded-same (witnessLength sheetRows) (witnessLength n) (witnessIn t n) (onWitness s n l) (witness-same s n l t filled held));
+            publics-laid = rw accepted (same .publics-laid ∙ padded-same sheetRows l (publicsIn t n) (onPublics s n l) (publics-same s n l t filled held));
             challenges-laid = rw accepted (same .challenges-laid ∙ padded-same 4 4 (challengesIn t n l) (onChallenges s n l) (challenges-same s n l t filled held));
           }
 

@@ -2,6 +2,7 @@
 --
 -- selectors-same, labels-same, witness-same, publics-same, challenges-same   number k of each buffer
 -- elements-same, labels-list-same   the elements end to end, and the labels
+-- elements-long   how many elements the table has
 --
 -- Assumes nothing.
 use mathlib.Core.Path.{_≡_, ap₂, _∙_}
@@ -9,9 +10,10 @@ use mathlib.Core.List.{List, _++_}
 use Prim.Native.Nat.{ℕ, suc, _+_, _*_, _/_, _%_, _<_}
 use native.Mathlib.Nat.{mod-lt, div-lt-iff-lt-mul, mod-eq-of-lt, div-eq-of-lt, mod-one, div-one}
 use native.Mathlib.Omega.{arith}
-use lib.ListN.{getD}
+use lib.ListN.{length, getD, length-append}
 use Rattle.algebra.specs.Lists.{tab}
-use Rattle.algebra.specs.Tables.{tab-ext}
+use Rattle.algebra.specs.Tables.{length-tab, tab-ext}
+use Rattle.circuit.specs.Buffers.{selectorsLength, labelsLength, witnessLength}
 use Rattle.sheet.specs.Sheet.{fieldsDue, linesDue, numberOf, onSelectors, onLabels, onWitness, onPublics, onChallenges, sheetElements}
 use Rattle.sheet.specs.Table.{Full, Held, selectorsIn, labelsIn, witnessIn, publicsIn, challengesIn, tableElements}
 use Rattle.sheet.proofs.LineLaws.{due-circuit, due-witness, due-publics, due-challenges}
@@ -27,19 +29,19 @@ module _ (s : List ℕ) (n l : ℕ) (t : List ℕ) (full : Full n l t) (held : H
   word : (i j i' j' : ℕ) → i ≡ i' → j ≡ j' → 0 < i → i < linesDue n l → j < fieldsDue n l i → getD t (8 * i + j) 0 ≡ numberOf s n l i' j'
   word i j i' j' p q g h f = held .number i j g h f ∙ ap₂ (numberOf s n l) p q
 
-  pub selectors-same : (k : ℕ) → k < 5 * n → selectorsIn t n k ≡ onSelectors s n l k
+  pub selectors-same : (k : ℕ) → k < selectorsLength n → selectorsIn t n k ≡ onSelectors s n l k
   selectors-same k h =
       let a = row k in
       let b = column k 5 h in
       word (1 + k % n) (0 + k / n) (suc (k % n)) (k / n) (omega arith) (omega arith) (omega arith) (omega arith) (omega (arith, due-circuit n l (1 + k % n) (omega arith) (omega arith)))
 
-  pub labels-same : (k : ℕ) → k < 3 * n → labelsIn t n k ≡ onLabels s n l k
+  pub labels-same : (k : ℕ) → k < labelsLength n → labelsIn t n k ≡ onLabels s n l k
   labels-same k h =
       let a = row k in
       let b = column k 3 h in
       word (1 + k % n) (5 + k / n) (suc (k % n)) (5 + k / n) (omega arith) (omega arith) (omega arith) (omega arith) (omega (arith, due-circuit n l (1 + k % n) (omega arith) (omega arith)))
 
-  pub witness-same : (k : ℕ) → k < 3 * n → witnessIn t n k ≡ onWitness s n l k
+  pub witness-same : (k : ℕ) → k < witnessLength n → witnessIn t n k ≡ onWitness s n l k
   witness-same k h =
       let a = row k in
       let b = column k 3 h in
@@ -60,10 +62,14 @@ module _ (s : List ℕ) (n l : ℕ) (t : List ℕ) (full : Full n l t) (held : H
 
   pub elements-same : tableElements n l t ≡ sheetElements s n l
   elements-same =
-      ap₂ (λ (a b : List ℕ). a ++ b) (tab-ext (selectorsIn t n) (onSelectors s n l) (5 * n) selectors-same)
-      (ap₂ (λ (a b : List ℕ). a ++ b) (tab-ext (witnessIn t n) (onWitness s n l) (3 * n) witness-same)
+      ap₂ (λ (a b : List ℕ). a ++ b) (tab-ext (selectorsIn t n) (onSelectors s n l) (selectorsLength n) selectors-same)
+      (ap₂ (λ (a b : List ℕ). a ++ b) (tab-ext (witnessIn t n) (onWitness s n l) (witnessLength n) witness-same)
       (ap₂ (λ (a b : List ℕ). a ++ b) (tab-ext (publicsIn t n) (onPublics s n l) l publics-same)
       (tab-ext (challengesIn t n l) (onChallenges s n l) 4 challenges-same)))
 
-  pub labels-list-same : tab (labelsIn t n) (3 * n) ≡ tab (onLabels s n l) (3 * n)
-  labels-list-same = tab-ext (labelsIn t n) (onLabels s n l) (3 * n) labels-same
+  pub labels-list-same : tab (labelsIn t n) (labelsLength n) ≡ tab (onLabels s n l) (labelsLength n)
+  labels-list-same = tab-ext (labelsIn t n) (onLabels s n l) (labelsLength n) labels-same
+
+pub elements-long : (n l : ℕ) (t : List ℕ) → length (tableElements n l t) ≡ selectorsLength n + witnessLength n + l + 4
+elements-long n l t =
+    simp (length-append, length-tab) (omega arith)

@@ -6,7 +6,7 @@
 use mathlib.Core.Path.{_≡_}
 use mathlib.Core.Bool.{cond}
 use mathlib.Core.List.{List}
-use Prim.Native.Nat.{ℕ, _*_}
+use Prim.Native.Nat.{ℕ}
 use lib.ListN.{length}
 use Rattle.field.specs.Reasons.{answerOf, isAccepted}
 use Rattle.circuit.specs.Buffers.{selectorsLength, labelsLength, witnessLength}
@@ -21,8 +21,8 @@ pub record Reads (s selectors labels witness publics challenges : List ℕ) (r :
   pub n-is : r .n ≡ cond (isAccepted (r .answer)) (sheetN s) 0
   pub l-is : r .l ≡ cond (isAccepted (r .answer)) (sheetL s) 0
   pub selectors-laid :
-      selectors' ≡ cond (isAccepted (r .answer)) (padded (selectorsLength sheetRows) (onSelectors s (sheetN s) (sheetL s)) (5 * sheetN s)) selectors
-  pub labels-laid : labels' ≡ cond (isAccepted (r .answer)) (padded (labelsLength sheetRows) (onLabels s (sheetN s) (sheetL s)) (3 * sheetN s)) labels
-  pub witness-laid : witness' ≡ cond (isAccepted (r .answer)) (padded (witnessLength sheetRows) (onWitness s (sheetN s) (sheetL s)) (3 * sheetN s)) witness
+      selectors' ≡ cond (isAccepted (r .answer)) (padded (selectorsLength sheetRows) (onSelectors s (sheetN s) (sheetL s)) (selectorsLength (sheetN s))) selectors
+  pub labels-laid : labels' ≡ cond (isAccepted (r .answer)) (padded (labelsLength sheetRows) (onLabels s (sheetN s) (sheetL s)) (labelsLength (sheetN s))) labels
+  pub witness-laid : witness' ≡ cond (isAccepted (r .answer)) (padded (witnessLength sheetRows) (onWitness s (sheetN s) (sheetL s)) (witnessLength (sheetN s))) witness
   pub publics-laid : publics' ≡ cond (isAccepted (r .answer)) (padded sheetRows (onPublics s (sheetN s) (sheetL s)) (sheetL s)) publics
   pub challenges-laid : challenges' ≡ cond (isAccepted (r .answer)) (padded 4 (onChallenges s (sheetN s) (sheetL s)) 4) challenges

@@ -4,9 +4,10 @@
 -- SheetBack            what is read off the text s
 -- sheet-back           THE THEOREM, for the text of the numbers
 -- sheetLine            the numbers of line i of that text
+-- picked               what holds of both of two things holds of the one that a test picks
 -- some-due             every line has a number
 -- Admitted             what the reasons ask of the numbers: p and n are admissible on a sheet, l is at most n, elements are below p, labels below 3n
--- sheet-taken          a sheet that reads so, of at most 65,536 bytes, is accepted, where the lent buffers have the lengths that 256 rows need
+-- sheet-taken          a sheet that reads so, of at most 65,536 bytes, is accepted, where the lent buffers have the lengths due
 --
 -- Assumes nothing.
 use mathlib.Core.Path.{_≡_, refl, sym, ap, ap₂, subst, _∙_}
@@ -22,10 +23,12 @@ use borrow.Author.Tests.{ne-eqb, le-leb, lt-leb, le-ltb}
 use Rattle.algebra.specs.Lists.{tab, All}
 use Rattle.algebra.specs.Tables.{length-tab, getD-tab, tab-ext, tab-getD, all-append, all-tab}
 use Rattle.field.specs.Fields.{isField, isRows}
+use Rattle.field.specs.Lent.{lengths-none}
 use Rattle.field.specs.ReasonLaws.{elements-none}
 use Rattle.transform.specs.Parts.{laid}
+use Rattle.circuit.specs.Buffers.{selectorsLength, labelsLength, witnessLength}
 use Rattle.text.specs.Text.{isLineAt, lineOf}
-use Rattle.sheet.specs.Sheet.{fieldsDue, linesDue, lineAt, numberOf, sheetP, sheetN, sheetL, badLine, isExtra, onSelectors, onLabels, onWitness, onPublics, onChallenges, sheetElements, readAnswer}
+use Rattle.sheet.specs.Sheet.{sheetRows, fieldsDue, linesDue, lineAt, numberOf, sheetP, sheetN, sheetL, badLine, isExtra, onSelectors, onLabels, onWitness, onPublics, onChallenges, sheetElements, sheetDue, readAnswer}
 use Rattle.sheet.specs.Written.{column, circuitLine, witnessLine, publicLine, sheetText, Small, Right}
 use Rattle.sheet.specs.LaidLines.{laid-split, laid-same, laid-one, in-form, reads, no-bad, no-extra}
 
@@ -36,9 +39,9 @@ pub record SheetBack (s : List ℕ) (p n l : ℕ) (selectors labels witness publ
   pub l-is : sheetL s ≡ l
   pub none-bad : badLine s n l ≡ linesDue n l
   pub none-extra : isExtra s n l ≡ false
-  pub selectors-are : tab (onSelectors s n l) (5 * n) ≡ selectors
-  pub labels-are : tab (onLabels s n l) (3 * n) ≡ labels
-  pub witness-is : tab (onWitness s n l) (3 * n) ≡ witness
+  pub selectors-are : tab (onSelectors s n l) (selectorsLength n) ≡ selectors
+  pub labels-are : tab (onLabels s n l) (labelsLength n) ≡ labels
+  pub witness-is : tab (onWitness s n l) (witnessLength n) ≡ witness
   pub publics-are : tab (onPublics s n l) l ≡ publics
   pub challenges-are : tab (onChallenges s n l) 4 ≡ challenges
 
@@ -48,8 +51,7 @@ word-small [] k a = omega arith
 word-small (x ∷ xs) zero a = a .0
 word-small (x ∷ xs) (suc k) a = word-small xs k (a .1)
 
--- a fact of both of two lists is a fact of the one that a test picks
-picked : (P : List ℕ → Type 0) (b : Bool) {x y : List ℕ} → P x → P y → P (cond b x y)
+pub picked : {A : Type 0} (P : A → Type 0) (b : Bool) {x y : A} → P x → P y → P (cond b x y)
 picked P true p q = p
 picked P false p q = q
 
@@ -60,12 +62,9 @@ length-pick false x y k m p q = q
 pub some-due : (n l i : ℕ) → 0 < fieldsDue n l i
 unfolding fieldsDue
 some-due n l i =
-    either (eqb i 0) (omega arith)
-    (either (leb i n) (omega arith) (either (leb i (n + n)) (omega arith) (either (leb i (n + n + l)) (omega arith) (omega arith))))
-  where
-    either : (b : Bool) {x y : ℕ} → 0 < x → 0 < y → 0 < cond b x y
-    either true p q = p
-    either false p q = q
+    let P : ℕ → Type 0 = λ m. 0 < m in
+    picked P (eqb i 0) (omega arith)
+    (picked P (leb i n) (omega arith) (picked P (leb i (n + n)) (omega arith) (picked P (leb i (n + n + l)) (omega arith) (omega arith))))
 
 module _ (p n l : ℕ) (selectors labels witness publics challenges : List ℕ) where
   unfoldable pub sheetLine : ℕ → List ℕ
@@ -169,7 +168,7 @@ module _ (p n l : ℕ) (selectors labels witness publics challenges : List ℕ) 
     circuit-long : (i : ℕ) → length (circuitLine n selectors labels i) ≡ 8
     circuit-long i = length-append (tab (column n selectors i) 5) (tab (column n labels i) 3) ∙ simp length-tab
 
-    selectors-back : (k : ℕ) → k < 5 * n → onSelectors lines n l k ≡ getD selectors k 0
+    selectors-back : (k : ℕ) → k < selectorsLength n → onSelectors lines n l k ≡ getD selectors k 0
     selectors-back k h =
         let a = row k 5 h in
         let b = col k 5 h in
@@ -178,7 +177,7 @@ module _ (p n l : ℕ) (selectors labels witness publics challenges : List ℕ) 
         ∙ getD-tab (column n selectors (k % n)) 5 (k / n) b
         ∙ back-column selectors k
 
-    labels-back : (k : ℕ) → k < 3 * n → onLabels lines n l k ≡ getD labels k 0
+    labels-back : (k : ℕ) → k < labelsLength n → onLabels lines n l k ≡ getD labels k 0
     labels-back k h =
         let a = row k 3 h in
         let b = col k 3 h in
@@ -188,7 +187,7 @@ module _ (p n l : ℕ) (selectors labels witness publics challenges : List ℕ) 
         ∙ getD-tab (column n labels (k % n)) 3 (k / n) b
         ∙ back-column labels k
 
-    witness-back : (k : ℕ) → k < 3 * n → onWitness lines n l k ≡ getD witness k 0
+    witness-back : (k : ℕ) → k < witnessLength n → onWitness lines n l k ≡ getD witness k 0
     witness-back k h =
         let a = row k 3 h in
         let b = col k 3 h in
@@ -224,9 +223,9 @@ module _ (p n l : ℕ) (selectors labels witness publics challenges : List ℕ) 
           l-is = first-word 2 (omega arith);
           none-bad = no-bad n l sheetLine line-small line-long (some-due n l);
           none-extra = no-extra n l sheetLine line-small line-long (some-due n l);
-          selectors-are = list-back (onSelectors lines n l) selectors (5 * n) (right .selectors-long) selectors-back;
-          labels-are = list-back (onLabels lines n l) labels (3 * n) (right .labels-long) labels-back;
-          witness-is = list-back (onWitness lines n l) witness (3 * n) (right .witness-long) witness-back;
+          selectors-are = list-back (onSelectors lines n l) selectors (selectorsLength n) (right .selectors-long) selectors-back;
+          labels-are = list-back (onLabels lines n l) labels (labelsLength n) (right .labels-long) labels-back;
+          witness-is = list-back (onWitness lines n l) witness (witnessLength n) (right .witness-long) witness-back;
           publics-are = list-back (onPublics lines n l) publics l (right .publics-long) publics-back;
           challenges-are = list-back (onChallenges lines n l) challenges 4 (right .challenges-long) challenges-back;
         }
@@ -240,7 +239,7 @@ pub record Admitted (s : List ℕ) (p n l : ℕ) (selectors labels witness publi
   pub short : length s ≤ 65536
   pub one-of-three : isField p ≡ true
   pub rows : isRows p n ≡ true
-  pub few : n ≤ 256
+  pub few : n ≤ sheetRows
   pub inputs : l ≤ n
   pub selectors-below : All (λ (x : ℕ). x < p) selectors
   pub witness-below : All (λ (x : ℕ). x < p) witness
@@ -257,7 +256,7 @@ module _ (s : List ℕ) (p n l : ℕ) (selectors labels witness publics challeng
       (all-append (λ (x : ℕ). x < p) witness (publics ++ challenges) (taken .witness-below)
       (all-append (λ (x : ℕ). x < p) publics challenges (taken .publics-below) (taken .challenges-below))))
 
-  lent-labels-below : All (λ (x : ℕ). x < 3 * n) (tab (onLabels s n l) (3 * n))
+  lent-labels-below : All (λ (x : ℕ). x < 3 * n) (tab (onLabels s n l) (labelsLength n))
   lent-labels-below = rw (back .labels-are) (taken .labels-below)
 
   pub sheet-taken : readAnswer s ≡ record { number = 0; detail = 0 }
@@ -268,11 +267,12 @@ module _ (s : List ℕ) (p n l : ℕ) (selectors labels witness publics challeng
         back .in-form,
         taken .one-of-three,
         taken .rows,
-        le-ltb 256 n (taken .few),
+        le-ltb sheetRows n (taken .few),
         le-ltb n l (taken .inputs),
         back .none-bad,
         le-ltb (linesDue n l) (linesDue n l) (omega arith),
         back .none-extra,
+        lengths-none {long = sheetDue (length s)} refl,
         elements-none p (sheetElements s n l) elements-below,
-        elements-none (3 * n) (tab (onLabels s n l) (3 * n)) lent-labels-below,
+        elements-none (3 * n) (tab (onLabels s n l) (labelsLength n)) lent-labels-below,
       ))

@@ -15,25 +15,28 @@
 -- REASONS
 -- tooLong s            the sheet has more than 65,536 bytes
 -- sheetElements s n l  the elements in the order of 7
--- sheetShape, firstReasons   of p, n and l on a sheet; of the first line
+-- badFirst s           1: the sheet is too long, or its first line is missing or out of form
+-- firstReasons         of the first line: this, and those of p, n and l, which stand on it
 -- lineReasons          of the lines behind it
--- sheetLengths, sheetNumbers   of the five lent buffers' lengths; of the elements and labels, as they are lent
--- sheetReasons         of `read`, for the lengths of the five lent buffers: all of these
--- readAnswer s         the answer of reading the sheet into buffers of the right lengths
+-- sheetDue bytes       the lengths due, for a sheet of so many bytes
+-- sheetNumbers         of the elements and labels, as they are lent
+-- behindReasons        all reasons behind those of the first line, `long` being the table of lengths
+-- readReasons s long   all reasons of `read`
+-- sheetReasons         the same, for the lengths of the five lent buffers
+-- readAnswer s         the answer of reading the sheet into buffers of the lengths due
 --
 -- Assumes nothing.
 use mathlib.Core.Bool.{Bool, not, cond, _||_}
 use mathlib.Core.List.{List, [], _∷_, _++_}
-use Prim.Native.Nat.{ℕ, zero, suc, _+_, _*_, _-_, _/_, _%_}
+use Prim.Native.Nat.{ℕ, zero, suc, _+_, _-_, _/_, _%_}
 use lib.Dec.{eqb, leb, ltb}
 use lib.ListN.{length, replicate}
 use Rattle.algebra.specs.Lists.{tab}
 use Rattle.algebra.specs.Modular.{first}
 use Rattle.field.specs.declared.Answer.{Answer}
-use Rattle.field.specs.Fields.{isRows}
-use Rattle.field.specs.Reasons.{Reason, answerOf, badField, badLength, badElement}
+use Rattle.field.specs.Reasons.{Reason, answerOf, shapeReasons, badLengths}
 use Rattle.circuit.specs.Buffers.{selectorsLength, labelsLength, witnessLength}
-use Rattle.circuit.specs.Reasons.{badPublics, badLabel}
+use Rattle.circuit.specs.Reasons.{numberReasons}
 use Rattle.text.specs.Text.{numberAt, fieldAt, isLineAt}
 
 abbrev pub sheetRows : ℕ
@@ -100,42 +103,35 @@ tooLong s = ltb 65536 (length s)
 -- the elements in the order of 7: selectors, witness, public inputs, challenges
 abbrev pub sheetElements : List ℕ → ℕ → ℕ → List ℕ
 sheetElements s n l =
-    tab (onSelectors s n l) (5 * n) ++ (tab (onWitness s n l) (3 * n) ++ (tab (onPublics s n l) l ++ tab (onChallenges s n l) 4))
+    tab (onSelectors s n l) (selectorsLength n) ++ (tab (onWitness s n l) (witnessLength n) ++ (tab (onPublics s n l) l ++ tab (onChallenges s n l) 4))
 
--- of p, n and l, and of the first line, on which they stand
-abbrev pub sheetShape : ℕ → ℕ → ℕ → List Reason
-sheetShape p n l =
-    badField p ∷ record { number = 3; detail = 0; applies = not (isRows p n) || ltb sheetRows n } ∷ badPublics l n ∷ []
+abbrev pub badFirst : List ℕ → Reason
+badFirst s = record { number = 1; detail = 0; applies = tooLong s || not (isLineAt s 0 3) }
 
 abbrev pub firstReasons : List ℕ → List Reason
-firstReasons s =
-    record { number = 1; detail = 0; applies = tooLong s || not (isLineAt s 0 3) } ∷ sheetShape (sheetP s) (sheetN s) (sheetL s)
+firstReasons s = badFirst s ∷ shapeReasons (sheetP s) (sheetN s) (sheetL s) sheetRows
 
--- of the lines behind it, of the five buffers' lengths, of the numbers
 abbrev pub lineReasons : List ℕ → ℕ → ℕ → List Reason
 lineReasons s n l =
     record { number = 5; detail = suc (badLine s n l); applies = ltb (badLine s n l) (linesDue n l) || isExtra s n l } ∷ []
 
-abbrev pub sheetLengths : (selectors labels witness publics challenges : ℕ) → List Reason
-sheetLengths selectors labels witness publics challenges =
-    badLength 2 selectors (selectorsLength sheetRows)
-    ∷ badLength 3 labels (labelsLength sheetRows)
-    ∷ badLength 4 witness (witnessLength sheetRows)
-    ∷ badLength 5 publics sheetRows
-    ∷ badLength 6 challenges 4
-    ∷ []
+-- sheet, selectors, labels, witness, public inputs, challenges. The sheet has whatever length it has, so the first place never differs
+abbrev pub sheetDue : ℕ → List ℕ
+sheetDue bytes =
+    bytes ∷ selectorsLength sheetRows ∷ labelsLength sheetRows ∷ witnessLength sheetRows ∷ sheetRows ∷ 4 ∷ []
 
 abbrev pub sheetNumbers : List ℕ → ℕ → ℕ → ℕ → List Reason
-sheetNumbers s p n l = badElement p (sheetElements s n l) ∷ badLabel n (tab (onLabels s n l) (3 * n)) ∷ []
+sheetNumbers s p n l = numberReasons p n (sheetElements s n l) (tab (onLabels s n l) (labelsLength n))
+
+abbrev pub behindReasons : (s : List ℕ) (p n l : ℕ) (long : List ℕ) → List Reason
+behindReasons s p n l long = lineReasons s n l ++ (badLengths long (sheetDue (length s)) ∷ sheetNumbers s p n l)
+
+abbrev pub readReasons : (s long : List ℕ) → List Reason
+readReasons s long = firstReasons s ++ behindReasons s (sheetP s) (sheetN s) (sheetL s) long
 
 abbrev pub sheetReasons : (s : List ℕ) (selectors labels witness publics challenges : ℕ) → List Reason
 sheetReasons s selectors labels witness publics challenges =
-    let n : ℕ = sheetN s in
-    let l : ℕ = sheetL s in
-    firstReasons s
-    ++ (lineReasons s n l ++ (sheetLengths selectors labels witness publics challenges ++ sheetNumbers s (sheetP s) n l))
+    readReasons s (length s ∷ selectors ∷ labels ∷ witness ∷ publics ∷ challenges ∷ [])
 
--- what a sheet is answered, where the lent buffers have the lengths that 256 rows need
 abbrev pub readAnswer : List ℕ → Answer
-readAnswer s =
-    answerOf (sheetReasons s (selectorsLength sheetRows) (labelsLength sheetRows) (witnessLength sheetRows) sheetRows 4)
+readAnswer s = answerOf (readReasons s (sheetDue (length s)))

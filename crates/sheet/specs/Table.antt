@@ -7,7 +7,7 @@
 -- Begins s n l at t    what reading the lines from line 1 on asks: it starts at `at`, and the lines fit into the table
 -- Fits t width row col count   the table has room for a block of `count` numbers
 -- Full n l t           the table has room for the lines of n rows and l public inputs
--- Room                 the five lent buffers have the lengths that 256 rows need
+-- Room                 the five lent buffers have the lengths that sheetRows rows need
 -- Laid n l t           the five lent buffers hold the blocks of the table
 --
 -- Assumes nothing.
@@ -16,7 +16,8 @@ use mathlib.Core.List.{List, _++_}
 use Prim.Native.Nat.{ℕ, _+_, _*_, _/_, _%_, _≤_, _<_}
 use lib.ListN.{length, getD}
 use Rattle.algebra.specs.Lists.{tab}
-use Rattle.sheet.specs.Sheet.{fieldsDue, lineAt, numberOf, padded}
+use Rattle.circuit.specs.Buffers.{selectorsLength, labelsLength, witnessLength}
+use Rattle.sheet.specs.Sheet.{sheetRows, fieldsDue, lineAt, numberOf, padded}
 
 abbrev pub inTable : List ℕ → ℕ → ℕ → ℕ → ℕ → ℕ
 inTable t width row col k = getD t (8 * (row + k % width) + (col + k / width)) 0
@@ -38,14 +39,14 @@ challengesIn t n l k = inTable t 1 (n + n + l + 1) 0 k
 
 abbrev pub tableElements : ℕ → ℕ → List ℕ → List ℕ
 tableElements n l t =
-    tab (selectorsIn t n) (5 * n) ++ (tab (witnessIn t n) (3 * n) ++ (tab (publicsIn t n) l ++ tab (challengesIn t n l) 4))
+    tab (selectorsIn t n) (selectorsLength n) ++ (tab (witnessIn t n) (witnessLength n) ++ (tab (publicsIn t n) l ++ tab (challengesIn t n l) 4))
 
 pub record Held (s : List ℕ) (n l m : ℕ) (t : List ℕ) : Type 0 where
   pub number : (i j : ℕ) → 0 < i → i < m → j < fieldsDue n l i → getD t (8 * i + j) 0 ≡ numberOf s n l i j
 
 pub record Full (n l : ℕ) (t : List ℕ) : Type 0 where
   pub some : 0 < n
-  pub few : n ≤ 256
+  pub few : n ≤ sheetRows
   pub publics : l ≤ n
   pub long : length t ≡ 6160
 
@@ -60,15 +61,15 @@ pub record Fits (t : List ℕ) (width row col count : ℕ) : Type 0 where
   pub within : (k : ℕ) → k < count → 8 * (row + k % width) + (col + k / width) < length t
 
 pub record Room (selectors labels witness publics challenges : List ℕ) : Type 0 where
-  pub selectors-long : length selectors ≡ 1280
-  pub labels-long : length labels ≡ 768
-  pub witness-long : length witness ≡ 768
-  pub publics-long : length publics ≡ 256
+  pub selectors-long : length selectors ≡ selectorsLength sheetRows
+  pub labels-long : length labels ≡ labelsLength sheetRows
+  pub witness-long : length witness ≡ witnessLength sheetRows
+  pub publics-long : length publics ≡ sheetRows
   pub challenges-long : length challenges ≡ 4
 
 pub record Laid (n l : ℕ) (t selectors labels witness publics challenges : List ℕ) : Type 0 where
-  pub selectors-laid : selectors ≡ padded 1280 (selectorsIn t n) (5 * n)
-  pub labels-laid : labels ≡ padded 768 (labelsIn t n) (3 * n)
-  pub witness-laid : witness ≡ padded 768 (witnessIn t n) (3 * n)
-  pub publics-laid : publics ≡ padded 256 (publicsIn t n) l
+  pub selectors-laid : selectors ≡ padded (selectorsLength sheetRows) (selectorsIn t n) (selectorsLength n)
+  pub labels-laid : labels ≡ padded (labelsLength sheetRows) (labelsIn t n) (labelsLength n)
+  pub witness-laid : witness ≡ padded (witnessLength sheetRows) (witnessIn t n) (witnessLength n)
+  pub publics-laid : publics ≡ padded sheetRows (publicsIn t n) l
   pub challenges-laid : challenges ≡ padded 4 (challengesIn t n l) 4

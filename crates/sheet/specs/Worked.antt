@@ -13,7 +13,7 @@ use lib.ListN.{take, drop}
 use Rattle.algebra.specs.Lists.{tab}
 use Rattle.algebra.specs.Modular.{first}
 use Rattle.field.specs.Fields.{isField, isRows, greatestRows}
-use Rattle.field.specs.Reasons.{answerOf, firstAbove}
+use Rattle.field.specs.Reasons.{answerOf, firstOther, firstAbove}
 use Rattle.transform.specs.Parts.{laid}
 use Rattle.text.specs.Text.{isDigit, digitsEnd, valueOf, isNumberAt, numberAt, fieldAt, isFieldAt, isLineAt, decimalOf, fieldsOf}
 use Rattle.sheet.specs.Sheet.{fieldsDue, lineAt, numberOf, sheetP, sheetN, sheetL, badLine, onSelectors, onLabels, onWitness, onPublics, onChallenges, sheetReasons, readAnswer}
@@ -68,7 +68,7 @@ pub record Worked : Type 0 where
   pub short : answerOf (sheetReasons bytes 1280 768 767 256 4) ≡ record { number = 6; detail = 4 }
 
 pub worked : Worked
-unfolding tab first isDigit digitsEnd valueOf isNumberAt numberAt fieldAt isFieldAt isLineAt fieldsDue lineAt numberOf badLine isField isRows greatestRows firstAbove laid decimalOf fieldsOf ones
+unfolding tab first isDigit digitsEnd valueOf isNumberAt numberAt fieldAt isFieldAt isLineAt fieldsDue lineAt numberOf badLine isField isRows greatestRows firstOther firstAbove laid decimalOf fieldsOf ones
 worked =
     record {
       p-is = refl;

@@ -14,6 +14,7 @@ use Prim.Native.Nat.{ℕ, _+_, _*_, _<_}
 use lib.ListN.{length, getD}
 use Rattle.algebra.specs.Lists.{tab, All}
 use Rattle.transform.specs.Parts.{laid}
+use Rattle.circuit.specs.Buffers.{selectorsLength, labelsLength, witnessLength}
 use Rattle.text.specs.Text.{lineOf}
 
 abbrev pub column : ℕ → List ℕ → ℕ → ℕ → ℕ
@@ -42,11 +43,11 @@ Small xs = All (λ (x : ℕ). x < 4294967296) xs
 pub record Right (p n l : ℕ) (selectors labels witness publics challenges : List ℕ) : Type 0 where
   pub first-small : Small (p ∷ n ∷ l ∷ [])
   pub selectors-small : Small selectors
-  pub selectors-long : length selectors ≡ 5 * n
+  pub selectors-long : length selectors ≡ selectorsLength n
   pub labels-small : Small labels
-  pub labels-long : length labels ≡ 3 * n
+  pub labels-long : length labels ≡ labelsLength n
   pub witness-small : Small witness
-  pub witness-long : length witness ≡ 3 * n
+  pub witness-long : length witness ≡ witnessLength n
   pub publics-small : Small publics
   pub publics-long : length publics ≡ l
   pub challenges-small : Small challenges

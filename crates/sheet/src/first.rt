@@ -1,7 +1,7 @@
 // The first line of a sheet: p, n and l, and the reasons that speak of them.
 ghost use mathlib.Core.Path.{_≡_};
 ghost use lib.ListN.{length};
-ghost use Rattle.sheet.specs.Sheet.{sheetShape, firstReasons};
+ghost use Rattle.sheet.specs.Sheet.{firstReasons};
 ghost use Rattle.sheet.specs.Deciding.{Opened};
 ghost use Rattle.field.specs.Reasons.{answerOf};
 use field::Answer;
@@ -13,25 +13,6 @@ pub struct First {
     pub n: u32,
     pub l: u32,
     pub next: usize,
-}
-
-// The reasons of p, n and l on a sheet.
-fn shape(p: u32, n: u32, l: u32) -> Answer
-    ensures { λ r. ⌜ r ≡ answerOf (sheetShape p n l) ⌝ }
-{
-    if !field::is_field(p) {
-        return field::refused(2, 0);
-    }
-    if !field::is_rows(p, n) {
-        return field::refused(3, 0);
-    }
-    if 256 < n {
-        return field::refused(3, 0);
-    }
-    if n < l {
-        return field::refused(4, 0);
-    }
-    field::accepted()
 }
 
 // No first line was read.
@@ -71,7 +52,7 @@ pub fn decide_first(s: &[u8]) -> First
     let p = words[0];
     let n = words[1];
     let l = words[2];
-    let answer = shape(p, n, l);
+    let answer = field::decide_shape(p, n, l, super::ROWS);
     First {
         answer,
         p,

@@ -1,12 +1,13 @@
 // Numbers of the table in the order in which they are lent: number k of a block is in line row + k % width, field col + k / width.
 ghost use mathlib.Core.Path.{_≡_};
 ghost use mathlib.Core.Bool.{cond};
-ghost use Prim.Native.Nat.{_*_, _≤_};
+ghost use Prim.Native.Nat.{_+_, _≤_, _<_};
 ghost use lib.Dec.{ltb};
 ghost use lib.ListN.{length};
 ghost use Rattle.algebra.specs.Lists.{tab};
 ghost use Rattle.field.specs.Reasons.{firstAbove};
-ghost use Rattle.sheet.specs.Sheet.{padded};
+ghost use Rattle.circuit.specs.Buffers.{selectorsLength, labelsLength, witnessLength};
+ghost use Rattle.sheet.specs.Sheet.{sheetRows, padded};
 ghost use Rattle.sheet.specs.Table.{inTable, selectorsIn, labelsIn, witnessIn, publicsIn, challengesIn, Fits, Full, Room, Laid};
 
 // Number k of a block of `count` numbers; 0 from there on.
@@ -35,6 +36,26 @@ pub fn above(p: u32, table: &[u32], width: usize, row: usize, col: usize, count:
     k
 }
 
+// The same of blocks end to end: `long` numbers have been passed, of which `at` was the answer, and a block follows.
+pub fn then_above(
+    p: u32,
+    at: usize,
+    long: usize,
+    table: &[u32],
+    width: usize,
+    row: usize,
+    col: usize,
+    count: usize,
+) -> usize
+    requires { ⌜ Fits (now table) width row col count × (long + count < 4294967296) ⌝ }
+    ensures { λ r. ⌜ r ≡ cond (ltb at long) at (long + firstAbove p (tab (inTable (now (table .entry)) width row col) count)) ⌝ }
+{
+    if at < long {
+        return at;
+    }
+    long + above(p, table, width, row, col, count)
+}
+
 // A block laid at the start of `out`, zeros behind.
 fn lay(table: &[u32], width: usize, row: usize, col: usize, count: usize, out: &mut [u32])
     requires { ⌜ Fits (now table) width row col count ⌝ }
@@ -50,12 +71,12 @@ fn lay(table: &[u32], width: usize, row: usize, col: usize, count: usize, out: &
 
 // The circuit: selectors and labels.
 fn lay_circuit(table: &[u32], n: usize, selectors: &mut [u32], labels: &mut [u32])
-    requires { ⌜ Full n 0 (now table) × (length (now selectors) ≡ 1280) × (length (now labels) ≡ 768) ⌝ }
-    ensures { λ _. ⌜ now (selectors .exit) ≡ padded 1280 (selectorsIn (now (table .entry)) n) (5 * n) ⌝ }
-    ensures { λ _. ⌜ now (labels .exit) ≡ padded 768 (labelsIn (now (table .entry)) n) (3 * n) ⌝ }
+    requires { ⌜ Full n 0 (now table) × (length (now selectors) ≡ selectorsLength sheetRows) × (length (now labels) ≡ labelsLength sheetRows) ⌝ }
+    ensures { λ _. ⌜ now (selectors .exit) ≡ padded (selectorsLength sheetRows) (selectorsIn (now (table .entry)) n) (selectorsLength n) ⌝ }
+    ensures { λ _. ⌜ now (labels .exit) ≡ padded (labelsLength sheetRows) (labelsIn (now (table .entry)) n) (labelsLength n) ⌝ }
 {
-    lay(table, n, 1, 0, 5 * n, selectors);
-    lay(table, n, 1, 5, 3 * n, labels);
+    lay(table, n, 1, 0, circuit::selectors_length(n), selectors);
+    lay(table, n, 1, 5, circuit::labels_length(n), labels);
 }
 
 // What the circuit is filled with: witness, public inputs and challenges.
@@ -67,12 +88,12 @@ fn lay_filling(
     publics: &mut [u32],
     challenges: &mut [u32],
 )
-    requires { ⌜ Full n l (now table) × (length (now witness) ≡ 768) × (length (now publics) ≡ 256) × (length (now challenges) ≡ 4) ⌝ }
-    ensures { λ _. ⌜ now (witness .exit) ≡ padded 768 (witnessIn (now (table .entry)) n) (3 * n) ⌝ }
-    ensures { λ _. ⌜ now (publics .exit) ≡ padded 256 (publicsIn (now (table .entry)) n) l ⌝ }
+    requires { ⌜ Full n l (now table) × (length (now witness) ≡ witnessLength sheetRows) × (length (now publics) ≡ sheetRows) × (length (now challenges) ≡ 4) ⌝ }
+    ensures { λ _. ⌜ now (witness .exit) ≡ padded (witnessLength sheetRows) (witnessIn (now (table .entry)) n) (witnessLength n) ⌝ }
+    ensures { λ _. ⌜ now (publics .exit) ≡ padded sheetRows (publicsIn (now (table .entry)) n) l ⌝ }
     ensures { λ _. ⌜ now (challenges .exit) ≡ padded 4 (challengesIn (now (table .entry)) n l) 4 ⌝ }
 {
-    lay(table, n, n + 1, 0, 3 * n, witness);
+    lay(table, n, n + 1, 0, circuit::witness_length(n), witness);
     lay(table, n, n + n + 1, 0, l, publics);
     lay(table, 1, n + n + l + 1, 0, 4, challenges);
 }

@@ -20,14 +20,17 @@ pub struct SheetAnswer {
     pub l: u32,
 }
 
-// Room for the table of a sheet's numbers: 8 words for each of 770 lines, which 256 rows and 256 public inputs have.
+// The greatest number of rows on a sheet.
+const ROWS: u32 = 256;
+
+// Room for the table of a sheet's numbers: 8 words for each of the 770 lines that ROWS rows and as many public inputs have.
 fn blank() -> [u32; 6160]
     ensures { λ r. ⌜ 6160 ≡ length r ⌝ }
 {
     [0; 6160]
 }
 
-// The numbers of a sheet, laid out for 256 rows. All refusals are found before a lent word is written.
+// The numbers of a sheet, laid out for ROWS rows. All refusals are found before a lent word is written.
 pub fn read(
     sheet: &[u8],
     selectors: &mut [u32],
@@ -40,15 +43,15 @@ pub fn read(
 {
     let k = 6160;
     let mut table = blank();
-    let found = reasons::decide(
-        sheet,
-        &mut table[..k],
+    let long = [
+        sheet.len(),
         selectors.len(),
         labels.len(),
         witness.len(),
         publics.len(),
         challenges.len(),
-    );
+    ];
+    let found = reasons::decide(sheet, &mut table[..k], &long);
     let answer = found.answer;
     let number = answer.number;
     if number == 0 {

@@ -1,7 +1,7 @@
 // The lines behind the first one, read into a table of 8 words a line.
 ghost use mathlib.Core.Path.{_≡_};
 ghost use Prim.Native.Nat.{_≤_};
-ghost use Rattle.sheet.specs.Sheet.{fieldsDue, linesDue, lineAt, badLine, lineReasons};
+ghost use Rattle.sheet.specs.Sheet.{sheetRows, fieldsDue, linesDue, lineAt, badLine, lineReasons};
 ghost use Rattle.sheet.specs.Table.{Held, Begins};
 ghost use Rattle.field.specs.Reasons.{answerOf};
 use field::Answer;
@@ -14,7 +14,7 @@ pub struct Lines {
 
 // How many numbers line i has.
 fn fields_due(n: usize, l: usize, i: usize) -> usize
-    requires { ⌜ (n ≤ 256) × (l ≤ 256) ⌝ }
+    requires { ⌜ (n ≤ sheetRows) × (l ≤ sheetRows) ⌝ }
     ensures { λ r. ⌜ r ≡ fieldsDue n l i ⌝ }
 {
     if i == 0 {

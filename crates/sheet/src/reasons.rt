@@ -2,41 +2,28 @@
 ghost use mathlib.Core.Path.{_≡_};
 ghost use lib.ListN.{length};
 ghost use Rattle.field.specs.Reasons.{answerOf};
-ghost use Rattle.sheet.specs.Sheet.{linesDue, sheetLengths};
+ghost use Rattle.sheet.specs.Sheet.{linesDue, sheetDue, behindReasons};
 ghost use Rattle.sheet.specs.Table.{Held, Begins};
-ghost use Rattle.sheet.specs.Deciding.{behindReasons, Decides};
+ghost use Rattle.sheet.specs.Deciding.{Decides};
 use super::SheetAnswer;
 use field::Answer;
 
-// The reasons of the five buffers' lengths.
-fn lengths(
-    selectors: usize,
-    labels: usize,
-    witness: usize,
-    publics: usize,
-    challenges: usize,
-) -> Answer
-    ensures { λ r. ⌜ r ≡ answerOf (sheetLengths selectors labels witness publics challenges) ⌝ }
+// The lengths due: of the sheet, which has whatever length it has, and of the five lent buffers.
+fn lengths_due(bytes: usize) -> [usize; 6]
+    ensures { λ r. ⌜ r ≡ sheetDue bytes ⌝ }
 {
-    if selectors != 1280 {
-        return field::refused(6, 2);
-    }
-    if labels != 768 {
-        return field::refused(6, 3);
-    }
-    if witness != 768 {
-        return field::refused(6, 4);
-    }
-    if publics != 256 {
-        return field::refused(6, 5);
-    }
-    if challenges != 4 {
-        return field::refused(6, 6);
-    }
-    field::accepted()
+    let rows = super::ROWS as usize;
+    [
+        bytes,
+        circuit::selectors_length(rows),
+        circuit::labels_length(rows),
+        circuit::witness_length(rows),
+        rows,
+        4,
+    ]
 }
 
-// The reasons behind those of the first line. The table is filled.
+// The reasons behind those of the first line, for the lengths of the sheet and of the five lent buffers. The table is filled.
 fn decide_behind(
     s: &[u8],
     p: u32,
@@ -44,14 +31,10 @@ fn decide_behind(
     l: usize,
     start: usize,
     table: &mut [u32],
-    selectors: usize,
-    labels: usize,
-    witness: usize,
-    publics: usize,
-    challenges: usize,
+    long: &[usize],
 ) -> Answer
-    requires { ⌜ Begins (now s) n l start (now table) ⌝ }
-    ensures { λ r. ⌜ r ≡ answerOf (behindReasons (now (s .entry)) p n l selectors labels witness publics challenges) ⌝ }
+    requires { ⌜ Begins (now s) n l start (now table) × (length (now long) ≡ 6) ⌝ }
+    ensures { λ r. ⌜ r ≡ answerOf (behindReasons (now (s .entry)) p n l (now (long .entry))) ⌝ }
     ensures { λ r. ⌜ (r .number ≡ 0 → Held (now (s .entry)) n l (linesDue n l) (now (table .exit))) ⌝ }
 {
     let first = super::lines::decide_lines(s, n, l, start, table);
@@ -59,7 +42,8 @@ fn decide_behind(
     if number != 0 {
         return first;
     }
-    let second = lengths(selectors, labels, witness, publics, challenges);
+    let due = lengths_due(s.len());
+    let second = field::decide_lengths(long, &due);
     let number = second.number;
     if number != 0 {
         return second;
@@ -79,18 +63,10 @@ fn turned_down(answer: Answer) -> SheetAnswer
     }
 }
 
-// All reasons in order, for the lengths of the five lent buffers. The table is filled where none applies.
-pub fn decide(
-    s: &[u8],
-    table: &mut [u32],
-    selectors: usize,
-    labels: usize,
-    witness: usize,
-    publics: usize,
-    challenges: usize,
-) -> SheetAnswer
-    requires { ⌜ length (now table) ≡ 6160 ⌝ }
-    ensures { λ r. ⌜ Decides (now (s .entry)) selectors labels witness publics challenges r (now (table .exit)) ⌝ }
+// All reasons in order, for the lengths of the sheet and of the five lent buffers. The table is filled where none applies.
+pub fn decide(s: &[u8], table: &mut [u32], long: &[usize]) -> SheetAnswer
+    requires { ⌜ (length (now table) ≡ 6160) × (length (now long) ≡ 6) ⌝ }
+    ensures { λ r. ⌜ Decides (now (s .entry)) (now (long .entry)) r (now (table .exit)) ⌝ }
 {
     let first = super::first::decide_first(s);
     let answer = first.answer;
@@ -100,20 +76,7 @@ pub fn decide(
     }
     let n = first.n as usize;
     let l = first.l as usize;
-    let start = first.next;
-    let answer = decide_behind(
-        s,
-        first.p,
-        n,
-        l,
-        start,
-        table,
-        selectors,
-        labels,
-        witness,
-        publics,
-        challenges,
-    );
+    let answer = decide_behind(s, first.p, n, l, first.next, table, long);
     let number = answer.number;
     if number != 0 {
         return turned_down(answer);

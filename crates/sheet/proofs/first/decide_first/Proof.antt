@@ -5,7 +5,9 @@ use lib.ListN.{length, take, drop}
 use lib.Seq.{length-take-le}
 use borrow.Author.Needs.{needs}
 use borrow.Author.Tests.{not-true, not-false}
+use Rattle.field.specs.Lent.{shaped}
 use Rattle.text.specs.Text.{isLineAt}
+use Rattle.sheet.specs.Sheet.{sheetRows}
 use Rattle.sheet.proofs.Decided.{first-long, first-bad, first-read, three}
 use Rattle.sheet.proofs.first.decide_first.Statement.{statement}
 use Rattle.sheet.proofs.first.decide_first.Tie as tie
@@ -57,8 +59,8 @@ array-read-n c = search needs
 array-read-l : tie.Need-array-read-l
 array-read-l c = search needs
 
-shape-requires : tie.Need-shape-requires
-shape-requires c κs = search needs
+decide-shape-requires : tie.Need-decide-shape-requires
+decide-shape-requires c κs = search needs
 
 returns-3 : tie.Need-returns-3
 returns-3 c =
@@ -71,13 +73,14 @@ returns-3 c =
     let p = word 0 (omega arith) in
     let n = word 1 (omega arith) in
     let m = word 2 (omega arith) in (
-      c .shape .ensures ∙ rw (p, n, m) (first-read s short (sym (form l) ∙ good)),
+      c .decide-shape .ensures ∙ rw (p, n, m) (first-read s short (sym (form l) ∙ good)),
       λ u.
           record {
             short = short;
             p-is = p;
             n-is = n;
             l-is = m;
+            shape = shaped _ _ _ sheetRows _ (c .decide-shape .ensures) u;
             starts = rw (← long (l .before .before)) (got .0);
             within = got .1;
           },
@@ -98,5 +101,5 @@ decide-first-spec =
     array-read-p
     array-read-n
     array-read-l
-    shape-requires
+    decide-shape-requires
     returns-3)

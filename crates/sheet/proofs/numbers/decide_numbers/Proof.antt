@@ -1,112 +1,104 @@
--- `sheet::numbers::decide_numbers` meets its contract: the reasons are tested in the order of their list. Assumes nothing.
-use mathlib.Core.Path.{ap, _∙_}
-use Prim.Native.Nat.{ℕ, _*_}
+-- `sheet::numbers::decide_numbers` meets its contract: the reason of the elements, then that of the labels. Assumes nothing.
+use mathlib.Core.Path.{_≡_, sym, ap, ap₂, _∙_}
+use mathlib.Core.List.{List, [], _∷_}
+use Prim.Native.Nat.{ℕ, _+_, _*_}
 use native.Mathlib.Omega.{arith}
 use lib.ListN.{length}
-use borrow.Author.Needs.{needs}
-use borrow.Author.Tests.{lt-ltb, le-ltb}
 use Rattle.algebra.specs.Lists.{tab}
 use Rattle.algebra.specs.Tables.{length-tab}
-use Rattle.field.specs.Reasons.{firstAbove}
+use Rattle.field.specs.Reasons.{Reason, answerOf, reasonAt, firstAbove, badElement}
+use Rattle.field.specs.ReasonLaws.{refused-first, refused-later}
+use Rattle.circuit.specs.Buffers.{labelsLength}
+use Rattle.circuit.specs.Reasons.{badLabel}
 use Rattle.sheet.specs.Table.{labelsIn, tableElements}
+use borrow.Author.Needs.{needs}
 use Rattle.sheet.proofs.BlockLaws.{labels-fit}
-use Rattle.sheet.proofs.ElementLaws.{elements-long}
+use Rattle.sheet.proofs.TableLaws.{elements-long}
 use Rattle.sheet.proofs.numbers.decide_numbers.Statement.{statement}
 use Rattle.sheet.proofs.numbers.decide_numbers.Tie as tie
+
+-- the two parts, and that the first is decided
+abbrev first : tie.Start → List Reason
+first s = badElement (s .args .p) (tableElements (s .args .n) (s .args .l) (s .args .table .now)) ∷ []
+
+abbrev second : tie.Start → List Reason
+second s = badLabel (s .args .n) (tab (labelsIn (s .args .table .now) (s .args .n)) (labelsLength (s .args .n))) ∷ []
+
+decided : (c : tie.After-decide-at) → c .decide-at .result ≡ answerOf (first (c .before .before .before .before .before))
+decided c =
+    let a = c .before .before .before .before .before .args in
+    let s = c .before .before .selectors-length in
+    let w = c .before .witness-length in
+    let elements = tableElements (a .n) (a .l) (a .table .now) in
+    let long : s .result + w .result + a .l + 4 ≡ length elements = omega (arith, s .ensures, w .ensures, elements-long (a .n) (a .l) (a .table .now)) in
+    c .decide-at .ensures ∙ ap₂ (λ (at count : ℕ). answerOf (reasonAt 7 at count ∷ [])) (c .before .before .before .elements .ensures) long
 
 elements-requires : tie.Need-elements-requires
 elements-requires c κs = search needs
 
-mul-if1 : tie.Need-mul-if1
-mul-if1 c = search needs
+selectors-length-requires : tie.Need-selectors-length-requires
+selectors-length-requires c κs = search needs
 
-add-if1 : tie.Need-add-if1
-add-if1 c = search needs
+witness-length-requires : tie.Need-witness-length-requires
+witness-length-requires c κs = search needs
 
-add-if1-2 : tie.Need-add-if1-2
-add-if1-2 c = search needs
+add-count : tie.Need-add-count
+add-count c = search needs
 
-cast-refused : tie.Need-cast-refused
-cast-refused c = search needs
+add-count-2 : tie.Need-add-count-2
+add-count-2 c = search needs
 
-refused-requires : tie.Need-refused-requires
-refused-requires c κs = search needs
+add-count-3 : tie.Need-add-count-3
+add-count-3 c = search needs
+
+decide-at-requires : tie.Need-decide-at-requires
+decide-at-requires c κs = search needs
 
 returns : tie.Need-returns
 returns c =
-    let s = c .before .before .before .before .args in
-    let t = s .table .now in
-    let at = c .before .before .elements .ensures in
-    let long = elements-long (s .n) (s .l) t in
-    c .refused .ensures
-    ∙ rw (lt-ltb (firstAbove (s .p) (tableElements (s .n) (s .l) t)) (length (tableElements (s .n) (s .l) t)) (omega (arith, at, long, c .before .if1 .taken)))
-    (ap (λ (d : ℕ). record { number = 7; detail = d }) at)
+    let s = c .before .before .before .before .before .before in
+    refused-first (first s) (second s) (omega arith, tt) _ (decided (c .before)) (c .if1 .taken)
 
-mul-labels : tie.Need-mul-labels
-mul-labels c = search needs
+labels-length-requires : tie.Need-labels-length-requires
+labels-length-requires c κs = search needs
 
 cast-above : tie.Need-cast-above
 cast-above c = search needs
 
+mul-above : tie.Need-mul-above
+mul-above c = search needs
+
 above-requires : tie.Need-above-requires
-above-requires c κs = labels-fit _ _ _ (c .before .before .before .pre)
+above-requires c κs = labels-fit _ _ _ (c .before .before .before .before .before .before .before .pre) (c .labels-length .ensures)
 
-cast-refused-2 : tie.Need-cast-refused-2
-cast-refused-2 c = search needs
-
-refused-requires-2 : tie.Need-refused-requires-2
-refused-requires-2 c κs = search needs
+decide-at-requires-2 : tie.Need-decide-at-requires-2
+decide-at-requires-2 c κs = search needs
 
 returns-2 : tie.Need-returns-2
 returns-2 c =
-    let s = c .before .before .before .before .before .before .args in
-    let t = s .table .now in
-    let at = c .before .before .before .before .elements .ensures in
-    let long = elements-long (s .n) (s .l) t in
-    let labels = tab (labelsIn t (s .n)) (3 * s .n) in
-    let few = length-tab (labelsIn t (s .n)) (3 * s .n) in
-    let place = c .before .before .above .ensures in
-    c .refused2 .ensures
-    ∙ rw (
-      le-ltb (firstAbove (s .p) (tableElements (s .n) (s .l) t)) (length (tableElements (s .n) (s .l) t)) (omega (arith, at, long, c .before .before .before .if1 .left)),
-      lt-ltb (firstAbove (3 * s .n) labels) (length labels) (omega (arith, place, few, c .before .if2 .taken)),
-    )
-    (ap (λ (d : ℕ). record { number = 8; detail = d }) place)
-
-accepted-requires : tie.Need-accepted-requires
-accepted-requires c κs = search needs
-
-returns-3 : tie.Need-returns-3
-returns-3 c =
-    let s = c .before .before .before .before .before .before .args in
-    let t = s .table .now in
-    let at = c .before .before .before .before .elements .ensures in
-    let long = elements-long (s .n) (s .l) t in
-    let labels = tab (labelsIn t (s .n)) (3 * s .n) in
-    let few = length-tab (labelsIn t (s .n)) (3 * s .n) in
-    let place = c .before .before .above .ensures in
-    c .accepted .ensures
-    ∙ rw (
-      le-ltb (firstAbove (s .p) (tableElements (s .n) (s .l) t)) (length (tableElements (s .n) (s .l) t)) (omega (arith, at, long, c .before .before .before .if1 .left)),
-      le-ltb (firstAbove (3 * s .n) labels) (length labels) (omega (arith, place, few, c .before .if2 .left)),
-    )
+    let s = c .before .before .before .before .before .before .before .before .before in
+    let t = s .args .table .now in
+    let n = s .args .n in
+    let long = c .before .before .labels-length .ensures in
+    let at = c .before .above .ensures ∙ ap (λ (m : ℕ). firstAbove (3 * n) (tab (labelsIn t n) m)) long in
+    refused-later (first s) (second s) (omega arith, tt) _ _ (decided (c .before .before .before .before)) (c .before .before .before .if1 .left)
+    (c .decide-at2 .ensures ∙ ap₂ (λ (at count : ℕ). answerOf (reasonAt 8 at count ∷ [])) at (long ∙ sym (length-tab (labelsIn t n) (labelsLength n))))
 
 pub decide-numbers-spec : {M : Type 1} → statement M
 decide-numbers-spec =
     tie.close
     (tie.spec
     elements-requires
-    mul-if1
-    add-if1
-    add-if1-2
-    cast-refused
-    refused-requires
+    selectors-length-requires
+    witness-length-requires
+    add-count
+    add-count-2
+    add-count-3
+    decide-at-requires
     returns
-    mul-labels
+    labels-length-requires
     cast-above
+    mul-above
     above-requires
-    cast-refused-2
-    refused-requires-2
-    returns-2
-    accepted-requires
-    returns-3)
+    decide-at-requires-2
+    returns-2)

@@ -1,55 +1,92 @@
--- `sheet::reasons::decide_behind` meets its contract: the parts of the reasons, in order. Assumes nothing.
-use mathlib.Core.Path.{sym, ap, _∙_}
-use borrow.Author.Needs.{needs}
+-- `sheet::reasons::decide_behind` meets its contract: the reason of the lines, that of the lengths, those of the numbers. Assumes nothing.
+use mathlib.Core.Path.{_≡_, ap, _∙_}
+use mathlib.Core.List.{List, [], _∷_, _++_}
+use Prim.Native.Nat.{ℕ}
+use native.Mathlib.Omega.{arith}
+use lib.ListN.{length}
+use Rattle.field.specs.Reasons.{Reason, answerOf, badLengths}
+use Rattle.field.specs.ReasonLaws.{refused-first, refused-later}
+use Rattle.sheet.specs.Sheet.{lineReasons, sheetDue, sheetNumbers}
 use Rattle.sheet.specs.Table.{Full}
-use Rattle.sheet.proofs.Decided.{in-lines, in-lengths, in-numbers, table-reasons}
+use borrow.Author.Needs.{needs}
+use Rattle.sheet.proofs.Decided.{table-reasons}
 use Rattle.sheet.proofs.reasons.decide_behind.Statement.{statement}
 use Rattle.sheet.proofs.reasons.decide_behind.Tie as tie
 
+-- the three parts, that the second is decided, and the table in which the lines stand
+abbrev lines : tie.Start → List Reason
+lines s = lineReasons (s .args .s .now) (s .args .n) (s .args .l)
+
+abbrev lengths : tie.Start → List Reason
+lengths s = badLengths (s .args .long .now) (sheetDue (length (s .args .s .now))) ∷ []
+
+abbrev numbers : tie.Start → List Reason
+numbers s = sheetNumbers (s .args .s .now) (s .args .p) (s .args .n) (s .args .l)
+
+abbrev start : tie.After-decide-lines → tie.Start
+start c = c .before .before .before .before .before
+
+abbrev read : tie.After-decide-lengths → tie.After-decide-lines
+read c = c .before .before .before .before .before .before
+
+decided : (c : tie.After-decide-lengths) → c .decide-lengths .result ≡ answerOf (lengths (start (read c)))
+decided c =
+    c .decide-lengths .ensures
+    ∙ ap (λ (due : List ℕ). answerOf (badLengths (start (read c) .args .long .now) due ∷ [])) (c .before .before .lengths-due .ensures)
+
+filled : (c : tie.After-decide-lines) → Full (start c .args .n) (start c .args .l) (c .decide-lines .last .1 .1 .1 .1 .0)
+filled c =
+    let full = start c .pre .0 .full in
+    record { some = full .some; few = full .few; publics = full .publics; long = c .decide-lines .kept .1 .1 .1 .1 .0 ∙ full .long }
+
 decide-lines-requires : tie.Need-decide-lines-requires
-decide-lines-requires c κs = search needs
+decide-lines-requires c κs = c .before .before .before .before .pre .0
 
 same-length : tie.Need-same-length
 same-length c = search needs
 
 returns : tie.Need-returns
 returns c =
-    let a = c .before .before .before .before .before .before .before .args in
-    let e = c .before .before .before .decide-lines .ensures .0 in
-    (e ∙ in-lines (a .s .now) (a .p) (a .n) (a .l) (a .selectors) (a .labels) (a .witness) (a .publics) (a .challenges) (λ u. c .if1 .taken (ap (λ r. r .number) e ∙ u)), λ u. absurd (c .if1 .taken u))
+    let d = c .before .before .before in
+    let s = start d in
+    (refused-first (lines s) (lengths s ++ numbers s) (omega arith, tt) _ (d .decide-lines .ensures .0) (c .if1 .taken), λ u. absurd (c .if1 .taken u))
 
-lengths-requires : tie.Need-lengths-requires
-lengths-requires c κs = search needs
+lengths-due-requires : tie.Need-lengths-due-requires
+lengths-due-requires c κs = search needs
+
+slice-aggregate-decide-lengths : tie.Need-slice-aggregate-decide-lengths
+slice-aggregate-decide-lengths c = search needs
+
+decide-lengths-requires : tie.Need-decide-lengths-requires
+decide-lengths-requires c κs = search needs
 
 same-length-2 : tie.Need-same-length-2
 same-length-2 c = search needs
 
 returns-2 : tie.Need-returns-2
 returns-2 c =
-    let a = c .before .before .before .before .before .before .before .before .before .args in
-    let d = c .before .before .before .before .before .decide-lines .ensures .0 in
-    let e = c .before .lengths .ensures in
-    (e ∙ in-lengths (a .s .now) (a .p) (a .n) (a .l) (a .selectors) (a .labels) (a .witness) (a .publics) (a .challenges) (ap (λ r. r .number) (sym d) ∙ c .before .before .if1 .left) (λ u. c .if2 .taken (ap (λ r. r .number) e ∙ u)), λ u. absurd (c .if2 .taken u))
+    let d = read (c .before) in
+    let s = start d in (
+      refused-later (lines s) (lengths s ++ numbers s) (omega arith, tt) _ _ (d .decide-lines .ensures .0) (c .before .before .before .before .if1 .left)
+          (refused-first (lengths s) (numbers s) (omega arith, tt) _ (decided (c .before)) (c .if2 .taken)),
+      λ u. absurd (c .if2 .taken u),
+    )
 
 decide-numbers-requires : tie.Need-decide-numbers-requires
-decide-numbers-requires c κs =
-    let s = c .before .before .before .before .before .before .before .before .before .before .pre .full in
-    record { some = s .some; few = s .few; publics = s .publics; long = c .before .before .before .before .before .before .decide-lines .kept .1 .1 .1 .1 .0 ∙ s .long }
+decide-numbers-requires c κs = filled (read (c .before .before))
 
 same-length-3 : tie.Need-same-length-3
 same-length-3 c = search needs
 
 returns-3 : tie.Need-returns-3
 returns-3 c =
-    let a = c .before .before .before .before .before .before .before .before .before .before .before .args in
-    let s = c .before .before .before .before .before .before .before .before .before .before .before .pre .full in
-    let d = c .before .before .before .before .before .before .before .decide-lines in
-    let e = c .before .before .before .lengths .ensures in
-    let held = d .ensures .1 (c .before .before .before .before .if1 .left) in
-    let t = d .last .1 .1 .1 .1 .0 in
-    let full : Full (a .n) (a .l) t = record { some = s .some; few = s .few; publics = s .publics; long = d .kept .1 .1 .1 .1 .0 ∙ s .long } in (
-      c .decide-numbers .ensures ∙ table-reasons (a .s .now) (a .p) (a .n) (a .l) t full held
-          ∙ in-numbers (a .s .now) (a .p) (a .n) (a .l) (a .selectors) (a .labels) (a .witness) (a .publics) (a .challenges) (ap (λ r. r .number) (sym (d .ensures .0)) ∙ c .before .before .before .before .if1 .left) (ap (λ r. r .number) (sym e) ∙ c .before .before .if2 .left),
+    let d = read (c .before .before .before) in
+    let s = start d in
+    let zero = c .before .before .before .before .before .before .if1 .left in
+    let held = d .decide-lines .ensures .1 zero in (
+      refused-later (lines s) (lengths s ++ numbers s) (omega arith, tt) _ _ (d .decide-lines .ensures .0) zero
+          (refused-later (lengths s) (numbers s) (omega arith, tt) _ _ (decided (c .before .before .before)) (c .before .before .if2 .left)
+          (c .decide-numbers .ensures ∙ table-reasons _ _ _ _ _ (filled d) held)),
       λ u. held,
     )
 
@@ -60,7 +97,9 @@ decide-behind-spec =
     decide-lines-requires
     same-length
     returns
-    lengths-requires
+    lengths-due-requires
+    slice-aggregate-decide-lengths
+    decide-lengths-requires
     same-length-2
     returns-2
     decide-numbers-requires
