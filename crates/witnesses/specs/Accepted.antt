@@ -3,29 +3,34 @@
 -- Accepted      p and n are admissible, every buffer is lent rightly, the witness satisfies the circuit, and no factor of any D(i) is 0
 -- accepted-of   an answer with number 0 means that all of it holds
 -- prove-taken   where all of it holds, no reason applies: buffers that are lent rightly, with a witness that satisfies the circuit and no zero factor, are never turned down
+-- buffer-numbers   no reason of the buffers has number 0
+-- buffers-of    where none of them applies, p, n, l, the lengths and the numbers are right
 -- brokenGate-le, brokenCopy-le, zeroFactor-le   the row or position is at most their number
 --
 -- Assumes nothing.
-use mathlib.Core.Path.{_≡_}
-use mathlib.Core.Bool.{false, not}
-use mathlib.Core.List.{List, _++_}
+use mathlib.Core.Path.{_≡_, refl}
+use mathlib.Core.Logic.{_≢_}
+use mathlib.Core.Bool.{false}
+use mathlib.Core.List.{List, [], _∷_, _++_}
 use Prim.Native.Nat.{ℕ, _*_, _≤_, _<_}
 use native.Mathlib.Omega.{arith}
 use lib.Dec.{ltb}
 use lib.ListN.{length, getD}
-use borrow.Author.Tests.{not-false, eqb-true, ltb-false, le-ltb}
+use borrow.Author.Tests.{ltb-false, le-ltb}
 use Rattle.algebra.specs.Lists.{All}
 use Rattle.algebra.specs.Polynomial.{Elements}
 use Rattle.algebra.specs.Search.{first-le}
 use Rattle.algebra.specs.Tables.{all-append, all-left, all-right}
-use Rattle.field.specs.Fields.{isField, isRows, Admissible}
-use Rattle.field.specs.Reasons.{answerOf}
-use Rattle.field.specs.ReasonLaws.{none-applies, taken, length-none, elements-of, elements-none}
+use Rattle.field.specs.Fields.{Admissible}
+use Rattle.field.specs.Lent.{Lent}
+use Rattle.field.specs.Reasons.{Reason, answerOf}
+use Rattle.field.specs.ReasonLaws.{none-applies, taken, both-none, both-taken}
 use Rattle.transform.specs.Transform.{scratchLength}
 use Rattle.circuit.specs.Circuit.{Circuit, lentCircuit, lentPublic, lentWitness, Satisfies}
 use Rattle.circuit.specs.Buffers.{witnessLength, transcriptLength}
-use Rattle.circuit.specs.RightlyLent.{RightCircuit, RightPublics}
-use Rattle.protocol.specs.Protocol.{brokenGate, brokenCopy, zeroFactor, proveReasons}
+use Rattle.circuit.specs.Reasons.{proveDue, proveBufferReasons}
+use Rattle.circuit.specs.RightlyLent.{RightCircuit, RightPublics, lent-numbers-of, lent-numbers-taken}
+use Rattle.protocol.specs.Protocol.{brokenGate, brokenCopy, zeroFactor, witnessReasons, proveReasons}
 use Rattle.protocol.specs.Conditions.{satisfied, unbroken}
 
 pub record Accepted (p n l : ℕ) (selectors labels witness publics transcript challenges scratch : List ℕ) : Type 0 where
@@ -36,8 +41,8 @@ pub record Accepted (p n l : ℕ) (selectors labels witness publics transcript c
   pub transcript-long : length transcript ≡ transcriptLength n
   pub challenges-right : Elements p 3 challenges
   pub scratch-long : length scratch ≡ scratchLength n
-  pub satisfies : Satisfies p n (lentCircuit n selectors labels) (lentPublic publics) (lentWitness witness)
-  pub no-zero : zeroFactor p n (lentCircuit n selectors labels) (lentWitness witness) (getD challenges 0 0) (getD challenges 1 0) ≡ n
+  pub satisfies : Satisfies p n (lentCircuit n selectors labels) (lentPublic publics) (lentWitness n witness)
+  pub no-zero : zeroFactor p n (lentCircuit n selectors labels) (lentWitness n witness) (getD challenges 0 0) (getD challenges 1 0) ≡ n
 
 at-end : {a m : ℕ} → a ≤ m → ltb a m ≡ false → a ≡ m
 at-end {a} {m} h e = omega (arith, ltb-false a m e)
@@ -54,63 +59,98 @@ pub zeroFactor-le : (p n : ℕ) (C : Circuit) (v : ℕ → ℕ) (beta gamma : �
 unfolding zeroFactor
 zeroFactor-le p n C v beta gamma = first-le _ n
 
-pub accepted-of : (p n l : ℕ) (selectors labels witness publics transcript challenges scratch : List ℕ)
-    → answerOf (proveReasons p n l selectors labels witness publics transcript challenges scratch) .number ≡ 0
-    → Accepted p n l selectors labels witness publics transcript challenges scratch
-accepted-of p n l selectors labels witness publics transcript challenges scratch e =
-    let C = lentCircuit n selectors labels in
-    let x = lentPublic publics in
-    let v = lentWitness witness in
-    let beta = getD challenges 0 0 in
-    let gamma = getD challenges 1 0 in
-    let P : ℕ → Type 0 = λ a. a < p in
-    let none =
-    none-applies (proveReasons p n l selectors labels witness publics transcript challenges scratch)
-    (omega arith, (omega arith, (omega arith, (omega arith, (omega arith, (omega arith, (omega arith, (omega arith, (omega arith, (omega arith, (omega arith, (omega arith, (omega arith, (omega arith, (omega arith, tt)))))))))))))))
-    e in
-    let lengths = none .1 .1 .1 in
-    let contents = lengths .1 .1 .1 .1 .1 .1 .1 in
-    let all : All P (selectors ++ (witness ++ (publics ++ challenges))) = elements-of p _ (contents .0) in
-    let later = all-right P selectors _ all in
-    let last = all-right P witness _ later in
-    let broken = contents .1 .1 in
-    record {
-      admissible = record { one-of-three = not-false _ (none .0); rows = not-false _ (none .1 .0) };
-      circuit-right = record {
-        selectors-right = record { long = eqb-true _ _ (not-false _ (lengths .0)); below = all-left P selectors _ all };
-        labels-right = record { long = eqb-true _ _ (not-false _ (lengths .1 .0)); below = elements-of (3 * n) labels (contents .1 .0) };
-      };
-      publics-right = record {
-        few = ltb-false _ _ (none .1 .1 .0);
-        elements = record { long = eqb-true _ _ (not-false _ (lengths .1 .1 .1 .0)); below = all-left P publics _ last };
-      };
-      witness-right = record { long = eqb-true _ _ (not-false _ (lengths .1 .1 .0)); below = all-left P witness _ later };
-      transcript-long = eqb-true _ _ (not-false _ (lengths .1 .1 .1 .1 .0));
-      challenges-right = record { long = eqb-true _ _ (not-false _ (lengths .1 .1 .1 .1 .1 .0)); below = all-right P publics _ last };
-      scratch-long = eqb-true _ _ (not-false _ (lengths .1 .1 .1 .1 .1 .1 .0));
-      satisfies =
-          satisfied p n C x v
-          (at-end (brokenGate-le p n C x v) (broken .0))
-          (at-end (brokenCopy-le n C v) (broken .1 .0));
-      no-zero = at-end (zeroFactor-le p n C v beta gamma) (broken .1 .1 .0);
-    }
+-- THE REASONS
+
+module _ (p n l : ℕ) (selectors labels witness publics transcript challenges scratch : List ℕ) where
+  abbrev long : List ℕ
+  long =
+      length selectors ∷ length labels ∷ length witness ∷ length publics ∷ length transcript ∷ length challenges ∷ length scratch ∷ []
+
+  abbrev elements : List ℕ
+  elements = selectors ++ (witness ++ (publics ++ challenges))
+
+  abbrev buffers : List Reason
+  buffers = proveBufferReasons p n l selectors labels witness publics transcript challenges scratch
+
+  abbrev C : Circuit
+  C = lentCircuit n selectors labels
+
+  abbrev x : ℕ → ℕ
+  x = lentPublic publics
+
+  abbrev v : ℕ → ℕ
+  v = lentWitness n witness
+
+  abbrev zeros : ℕ
+  zeros = zeroFactor p n C v (getD challenges 0 0) (getD challenges 1 0)
+
+  abbrev ofWitness : List Reason
+  ofWitness = witnessReasons p n C x v (getD challenges 0 0) (getD challenges 1 0)
+
+  pub buffer-numbers : All (λ r. r .number ≢ 0) buffers
+  buffer-numbers = (omega arith, (omega arith, (omega arith, (omega arith, (omega arith, (omega arith, tt))))))
+
+  pub buffers-of : answerOf buffers .number ≡ 0
+      → Lent p n l long (proveDue n l) × (All (λ (a : ℕ). a < p) elements × All (λ (k : ℕ). k < 3 * n) labels)
+  buffers-of = lent-numbers-of p n l long (proveDue n l) elements labels refl
+
+  pub accepted-of : answerOf (proveReasons p n l selectors labels witness publics transcript challenges scratch) .number ≡ 0
+      → Accepted p n l selectors labels witness publics transcript challenges scratch
+  accepted-of e =
+      let P : ℕ → Type 0 = λ a. a < p in
+      let both = both-none buffers ofWitness buffer-numbers e in
+      let known = buffers-of (both .0) in
+      let lent = known .0 in
+      let all = known .1 .0 in
+      let later = all-right P selectors _ all in
+      let last = all-right P witness _ later in
+      let broken = none-applies ofWitness (omega arith, (omega arith, (omega arith, tt))) (both .1) in
+      record {
+        admissible = lent .admissible;
+        circuit-right = record {
+          selectors-right = record { long = cc (lent .lengths); below = all-left P selectors _ all };
+          labels-right = record { long = cc (lent .lengths); below = known .1 .1 };
+        };
+        publics-right = record { few = lent .publics-few; elements = record { long = cc (lent .lengths); below = all-left P publics _ last } };
+        witness-right = record { long = cc (lent .lengths); below = all-left P witness _ later };
+        transcript-long = cc (lent .lengths);
+        challenges-right = record { long = cc (lent .lengths); below = all-right P publics _ last };
+        scratch-long = cc (lent .lengths);
+        satisfies = satisfied p n C x v (at-end (brokenGate-le p n C x v) (broken .0)) (at-end (brokenCopy-le n C v) (broken .1 .0));
+        no-zero = at-end (zeroFactor-le p n C v (getD challenges 0 0) (getD challenges 1 0)) (broken .1 .1 .0);
+      }
+
+  taken-of : Accepted p n l selectors labels witness publics transcript challenges scratch
+      → answerOf (proveReasons p n l selectors labels witness publics transcript challenges scratch) ≡ record { number = 0; detail = 0 }
+  taken-of A =
+      let P : ℕ → Type 0 = λ a. a < p in
+      let circuit = A .circuit-right in
+      let X = A .publics-right .elements in
+      let whole = unbroken p n C x v (A .satisfies) in
+      both-taken buffers ofWitness buffer-numbers
+      (lent-numbers-taken p n l long (proveDue n l) elements labels
+      (record {
+        admissible = A .admissible;
+        publics-few = A .publics-right .few;
+        lengths =
+            cc (
+              circuit .selectors-right .long,
+              circuit .labels-right .long,
+              A .witness-right .long,
+              X .long,
+              A .transcript-long,
+              A .challenges-right .long,
+              A .scratch-long,
+            );
+      })
+      (all-append P selectors _ (circuit .selectors-right .below)
+      (all-append P witness _ (A .witness-right .below) (all-append P publics _ (X .below) (A .challenges-right .below))))
+      (circuit .labels-right .below))
+      (taken ofWitness
+      (le-ltb (brokenGate p n C x v) n (omega (arith, whole .0)), (le-ltb (brokenCopy n C v) (3 * n) (omega (arith, whole .1)), (le-ltb zeros n (omega (arith, A .no-zero)), tt))))
 
 pub prove-taken : {p n l : ℕ} {selectors labels witness publics transcript challenges scratch : List ℕ}
     → Accepted p n l selectors labels witness publics transcript challenges scratch
     → answerOf (proveReasons p n l selectors labels witness publics transcript challenges scratch) ≡ record { number = 0; detail = 0 }
-prove-taken {p} {n} {l} {selectors} {labels} {witness} {publics} {transcript} {challenges} {scratch} A =
-    let C = lentCircuit n selectors labels in
-    let v = lentWitness witness in
-    let P : ℕ → Type 0 = λ x. x < p in
-    let X = A .publics-right .elements in
-    let prime : not (isField p) ≡ false = rw (A .admissible .one-of-three) in
-    let rows : not (isRows p n) ≡ false = rw (A .admissible .rows) in
-    let all : All P (selectors ++ (witness ++ (publics ++ challenges))) =
-    all-append P selectors _ (A .circuit-right .selectors-right .below)
-    (all-append P witness _ (A .witness-right .below) (all-append P publics _ (X .below) (A .challenges-right .below))) in
-    let whole = unbroken p n C (lentPublic publics) v (A .satisfies) in
-    let gates = le-ltb (brokenGate p n C (lentPublic publics) v) n (omega (arith, whole .0)) in
-    let copies = le-ltb (brokenCopy n C v) (3 * n) (omega (arith, whole .1)) in
-    let factors = le-ltb (zeroFactor p n C v (getD challenges 0 0) (getD challenges 1 0)) n (omega (arith, A .no-zero)) in
-    taken (proveReasons p n l selectors labels witness publics transcript challenges scratch)
-    (prime, (rows, (le-ltb n l (A .publics-right .few), (length-none (A .circuit-right .selectors-right .long), (length-none (A .circuit-right .labels-right .long), (length-none (A .witness-right .long), (length-none (X .long), (length-none (A .transcript-long), (length-none (A .challenges-right .long), (length-none (A .scratch-long), (elements-none p _ all, (elements-none (3 * n) labels (A .circuit-right .labels-right .below), (gates, (copies, (factors, tt)))))))))))))))
+prove-taken {p} {n} {l} {selectors} {labels} {witness} {publics} {transcript} {challenges} {scratch} =
+    taken-of p n l selectors labels witness publics transcript challenges scratch

@@ -23,22 +23,23 @@ fn of_witness(
     challenges: &[u32],
 ) -> Answer
     requires { ⌜ Checked p n (now selectors) (now labels) (now witness) (now challenges) ⌝ }
-    ensures { λ r. ⌜ r ≡ answerOf (witnessReasons p n (lentCircuit n (now (selectors .entry)) (now (labels .entry))) (lentPublic (now (publics .entry))) (lentWitness (now (witness .entry))) (getD (now (challenges .entry)) 0 0) (getD (now (challenges .entry)) 1 0)) ⌝ }
+    ensures { λ r. ⌜ r ≡ answerOf (witnessReasons p n (lentCircuit n (now (selectors .entry)) (now (labels .entry))) (lentPublic (now (publics .entry))) (lentWitness n (now (witness .entry))) (getD (now (challenges .entry)) 0 0) (getD (now (challenges .entry)) 1 0)) ⌝ }
 {
     let m = n as usize;
     let row = scans::broken_gate(p, m, selectors, witness, publics);
-    if row < m {
-        return field::refused(9, row as u32);
+    let gates = field::decide_at(9, row, m);
+    let number = gates.number;
+    if number != 0 {
+        return gates;
     }
-    let place = scans::broken_copy(labels, witness);
-    if place < 3 * m {
-        return field::refused(10, place as u32);
+    let place = scans::broken_copy(m, labels, witness);
+    let copies = field::decide_at(10, place, 3 * m);
+    let number = copies.number;
+    if number != 0 {
+        return copies;
     }
     let at = scans::zero_row(p, n, labels, witness, challenges[0], challenges[1]);
-    if at < m {
-        return field::refused(11, at as u32);
-    }
-    field::accepted()
+    field::decide_at(11, at, m)
 }
 
 // Why a call of the prover is turned down, if it is. The transcript and the scratch are looked at for their length only.

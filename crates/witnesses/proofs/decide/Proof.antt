@@ -1,4 +1,5 @@
 -- `witnesses::decide` meets its contract: the reasons of the buffers, then those of the witness. Assumes nothing.
+use mathlib.Core.Path.{sym, ap, _∙_}
 use mathlib.Core.Logic.{_≢_}
 use mathlib.Core.List.{List}
 use lib.ListN.{getD}
@@ -9,7 +10,8 @@ use Rattle.field.specs.ReasonLaws.{refused-first, refused-later}
 use Rattle.circuit.specs.Circuit.{lentCircuit, lentPublic, lentWitness}
 use Rattle.circuit.specs.Reasons.{proveBufferReasons}
 use Rattle.protocol.specs.Protocol.{witnessReasons}
-use Rattle.witnesses.proofs.Decided.{buffer-numbers, checked}
+use Rattle.witnesses.specs.Accepted.{buffer-numbers}
+use Rattle.witnesses.proofs.Decided.{checked}
 use Rattle.witnesses.proofs.decide.Statement.{statement}
 use Rattle.witnesses.proofs.decide.Tie as tie
 
@@ -19,7 +21,7 @@ first s = proveBufferReasons (s .args .p) (s .args .n) (s .args .l) (s .args .se
 
 abbrev second : tie.Start → List Reason
 second s =
-    witnessReasons (s .args .p) (s .args .n) (lentCircuit (s .args .n) (s .args .selectors .now) (s .args .labels .now)) (lentPublic (s .args .publics .now)) (lentWitness (s .args .witness .now)) (getD (s .args .challenges .now) 0 0) (getD (s .args .challenges .now) 1 0)
+    witnessReasons (s .args .p) (s .args .n) (lentCircuit (s .args .n) (s .args .selectors .now) (s .args .labels .now)) (lentPublic (s .args .publics .now)) (lentWitness (s .args .n) (s .args .witness .now)) (getD (s .args .challenges .now) 0 0) (getD (s .args .challenges .now) 1 0)
 
 -- no reason of the first has number 0
 first-right : (s : tie.Start) → All (λ r. r .number ≢ 0) (first s)
@@ -36,7 +38,8 @@ returns c =
 of-witness-requires : tie.Need-of-witness-requires
 of-witness-requires c κs =
     let s = c .before .before .before .before .before .before .before .before .before in
-    checked (s .args .p) (s .args .n) (s .args .l) (s .args .selectors .now) (s .args .labels .now) (s .args .witness .now) (s .args .publics .now) (s .args .transcript .now) (s .args .challenges .now) (s .args .scratch .now) _ (c .before .of-buffers .ensures) (c .if1 .left)
+    checked (s .args .p) (s .args .n) (s .args .l) (s .args .selectors .now) (s .args .labels .now) (s .args .witness .now) (s .args .publics .now) (s .args .transcript .now) (s .args .challenges .now) (s .args .scratch .now)
+    (sym (ap (λ a. a .number) (c .before .of-buffers .ensures)) ∙ c .if1 .left)
 
 returns-2 : tie.Need-returns-2
 returns-2 c =

@@ -1,74 +1,114 @@
--- `witnesses::reasons::of_buffers` meets its contract: the three parts of the reasons, in order. Assumes nothing.
+-- `witnesses::reasons::of_buffers` meets its contract: the reasons of p, n, l and the lengths, then those of the numbers. Assumes nothing.
+use mathlib.Core.Path.{_≡_, refl, sym, ap, ap₂, _∙_}
 use mathlib.Core.Logic.{_≢_}
-use mathlib.Core.List.{List, _++_}
+use mathlib.Core.List.{List, [], _∷_, _++_}
+use Prim.Native.Nat.{ℕ, _+_, _*_, _≤_}
 use native.Mathlib.Omega.{arith}
-use lib.ListN.{length}
+use lib.ListN.{length, length-append}
 use borrow.Author.Needs.{needs}
 use Rattle.algebra.specs.Lists.{All}
+use Rattle.field.specs.Lent.{lent-numbers, lent-of}
 use Rattle.field.specs.Primes.{rows-power}
-use Rattle.field.specs.Reasons.{Reason}
+use Rattle.field.specs.Reasons.{Reason, answerOf, lentReasons, reasonAt}
 use Rattle.field.specs.ReasonLaws.{refused-first, refused-later}
-use Rattle.circuit.specs.Reasons.{shapeReasons, proveLengths, proveNumbers}
-use Rattle.circuit.specs.Shape.{Shape, shaped, shape-numbers}
-use Rattle.witnesses.proofs.Decided.{length-numbers, few}
+use Rattle.circuit.specs.Reasons.{proveDue, numberReasons, badLabel}
 use Rattle.witnesses.proofs.reasons.of_buffers.Statement.{statement}
 use Rattle.witnesses.proofs.reasons.of_buffers.Tie as tie
 
--- the three parts
+-- the two parts
+abbrev long : tie.Start → List ℕ
+long s =
+    length (s .args .selectors .now) ∷ length (s .args .labels .now) ∷ length (s .args .witness .now) ∷ length (s .args .publics .now) ∷ length (s .args .transcript .now) ∷ length (s .args .challenges .now) ∷ length (s .args .scratch .now) ∷ []
+
 abbrev first : tie.Start → List Reason
-first s = shapeReasons (s .args .p) (s .args .n) (s .args .l)
+first s = lentReasons (s .args .p) (s .args .n) (s .args .l) (long s) (proveDue (s .args .n) (s .args .l))
+
+abbrev elements : tie.Start → List ℕ
+elements s = s .args .selectors .now ++ (s .args .witness .now ++ (s .args .publics .now ++ s .args .challenges .now))
 
 abbrev second : tie.Start → List Reason
-second s = proveLengths (s .args .n) (s .args .l) (length (s .args .selectors .now)) (length (s .args .labels .now)) (length (s .args .witness .now)) (length (s .args .publics .now)) (length (s .args .transcript .now)) (length (s .args .challenges .now)) (length (s .args .scratch .now))
+second s = numberReasons (s .args .p) (s .args .n) (elements s) (s .args .labels .now)
 
-abbrev third : tie.Start → List Reason
-third s = proveNumbers (s .args .p) (s .args .n) (s .args .selectors .now) (s .args .labels .now) (s .args .witness .now) (s .args .publics .now) (s .args .challenges .now)
-
--- none of their reasons has number 0
 first-right : (s : tie.Start) → All (λ r. r .number ≢ 0) (first s)
-first-right s = shape-numbers (s .args .p) (s .args .n) (s .args .l)
+first-right s = lent-numbers (s .args .p) (s .args .n) (s .args .l) (long s) (proveDue (s .args .n) (s .args .l))
 
-second-right : (s : tie.Start) → All (λ r. r .number ≢ 0) (second s)
-second-right s = length-numbers (s .args .n) (s .args .l) (length (s .args .selectors .now)) (length (s .args .labels .now)) (length (s .args .witness .now)) (length (s .args .publics .now)) (length (s .args .transcript .now)) (length (s .args .challenges .now)) (length (s .args .scratch .now))
+abbrev start : tie.After-decide-lent → tie.Start
+start c = c .before .before .before .before .before .before .before .before .before .before .before
 
--- the call, and what is known of p, n and l, past the first part
-abbrev start : tie.Else1 → tie.Start
-start c = c .before .before .before .before .before .before .before .before .before
+decided : (c : tie.After-decide-lent) → c .decide-lent .result ≡ answerOf (first (start c))
+decided c =
+    let s = start c in
+    c .decide-lent .ensures ∙ ap (λ (due : List ℕ). answerOf (lentReasons (s .args .p) (s .args .n) (s .args .l) (long s) due)) (c .before .before .before .prove .ensures)
 
-shape-known : (c : tie.Else1) → Shape (start c .args .p) (start c .args .n) (start c .args .l)
-shape-known c = shaped _ _ _ _ (c .before .decide-shape .ensures) (c .if1 .left)
+-- what is known past the first part: places in the buffers are numbers of the machine
+count : (s : tie.Start) → length (s .args .selectors .now) + length (s .args .witness .now) + length (s .args .publics .now) + length (s .args .challenges .now) ≡ length (elements s)
+count s = simp length-append (omega arith)
 
-decide-shape-requires : tie.Need-decide-shape-requires
-decide-shape-requires c κs = search needs
+few : (c : tie.Else1) → (start (c .before) .args .n ≤ 1024) × (length (elements (start (c .before))) ≤ 65536) × (length (start (c .before) .args .labels .now) ≤ 65536)
+few c =
+    let s = start (c .before) in
+    let lent = lent-of (s .args .p) (s .args .n) (s .args .l) (long s) (proveDue (s .args .n) (s .args .l)) refl (sym (ap (λ a. a .number) (decided (c .before))) ∙ c .if1 .left) in
+    let small : s .args .n ≤ 1024 = rows-power _ _ (lent .admissible .rows) .small in
+    let least : s .args .l ≤ s .args .n = lent .publics-few in
+    let a : length (s .args .selectors .now) ≡ 5 * s .args .n = cc (lent .lengths) in
+    let b : length (s .args .labels .now) ≡ 3 * s .args .n = cc (lent .lengths) in
+    let d : length (s .args .witness .now) ≡ 3 * s .args .n = cc (lent .lengths) in
+    let e : length (s .args .publics .now) ≡ s .args .l = cc (lent .lengths) in
+    let f : length (s .args .challenges .now) ≡ 3 = cc (lent .lengths) in
+    (small, omega (arith, count s), omega arith)
+
+prove-requires : tie.Need-prove-requires
+prove-requires c κs = search needs
+
+slice-aggregate-decide-lent : tie.Need-slice-aggregate-decide-lent
+slice-aggregate-decide-lent c = search needs
+
+slice-aggregate-decide-lent-2 : tie.Need-slice-aggregate-decide-lent-2
+slice-aggregate-decide-lent-2 c = search needs
+
+decide-lent-requires : tie.Need-decide-lent-requires
+decide-lent-requires c κs = search needs
 
 returns : tie.Need-returns
-returns c =
-    let s = c .before .before .before .before .before .before .before .before .before in
-    refused-first (first s) (second s ++ third s) (first-right s) _ (c .before .decide-shape .ensures) (c .if1 .taken)
+returns c = refused-first (first (start (c .before))) (second (start (c .before))) (first-right (start (c .before))) _ (decided (c .before)) (c .if1 .taken)
 
-lengths-requires : tie.Need-lengths-requires
-lengths-requires c κs = let rows = rows-power _ _ (shape-known c .admissible .rows) in (omega (arith, rows .least), rows .small)
+first-of-four-requires : tie.Need-first-of-four-requires
+first-of-four-requires c κs = omega (arith, few c .1, count (start (c .before)))
+
+add-count : tie.Need-add-count
+add-count c = search needs
+
+add-count-2 : tie.Need-add-count-2
+add-count-2 c = search needs
+
+add-count-3 : tie.Need-add-count-3
+add-count-3 c = search needs
+
+decide-numbers-requires : tie.Need-decide-numbers-requires
+decide-numbers-requires c κs =
+    let known = few (c .before) in
+    (known .0, omega (arith, known .1, count (start (c .before .before))), known .2)
 
 returns-2 : tie.Need-returns-2
 returns-2 c =
-    let d = c .before .before in
-    let s = start d in
-    refused-later (first s) (second s ++ third s) (first-right s) _ _ (d .before .decide-shape .ensures) (d .if1 .left)
-    (refused-first (second s) (third s) (second-right s) _ (c .before .lengths .ensures) (c .if2 .taken))
-
-numbers-requires : tie.Need-numbers-requires
-numbers-requires c κs =
-    let s = start (c .before .before) in
-    few (s .args .p) (s .args .n) (s .args .l) (s .args .selectors .now) (s .args .labels .now) (s .args .witness .now) (s .args .publics .now) (s .args .transcript .now) (s .args .challenges .now) (s .args .scratch .now) _ (shape-known (c .before .before)) (c .before .lengths .ensures) (c .if2 .left)
-
-returns-3 : tie.Need-returns-3
-returns-3 c =
     let d = c .before .before .before in
     let s = start d in
-    refused-later (first s) (second s ++ third s) (first-right s) _ _ (d .before .decide-shape .ensures) (d .if1 .left)
-    (refused-later (second s) (third s) (second-right s) _ _ (c .before .before .lengths .ensures) (c .before .if2 .left) (c .numbers .ensures))
+    refused-later (first s) (second s) (first-right s) _ _ (decided d) (c .before .before .if1 .left)
+    (c .decide-numbers .ensures
+    ∙ ap₂ (λ (at count : ℕ). answerOf (reasonAt 7 at count ∷ badLabel (s .args .n) (s .args .labels .now) ∷ [])) (c .before .first-of-four .ensures) (count s))
 
 pub of-buffers-spec : {M : Type 1} → statement M
 of-buffers-spec =
     tie.close
-    (tie.spec decide-shape-requires returns lengths-requires returns-2 numbers-requires returns-3)
+    (tie.spec
+    prove-requires
+    slice-aggregate-decide-lent
+    slice-aggregate-decide-lent-2
+    decide-lent-requires
+    returns
+    first-of-four-requires
+    add-count
+    add-count-2
+    add-count-3
+    decide-numbers-requires
+    returns-2)
