@@ -1,44 +1,30 @@
 -- `witnesses::reasons::of_buffers` meets its contract: the reasons of p, n, l and the lengths, then those of the numbers. Assumes nothing.
-use mathlib.Core.Path.{_≡_, refl, sym, ap, ap₂, _∙_}
-use mathlib.Core.Logic.{_≢_}
+use mathlib.Core.Path.{_≡_, refl, ap₂, _∙_}
 use mathlib.Core.List.{List, [], _∷_, _++_}
 use Prim.Native.Nat.{ℕ, _+_, _*_, _≤_}
 use native.Mathlib.Omega.{arith}
 use lib.ListN.{length, length-append}
 use borrow.Author.Needs.{needs}
-use Rattle.algebra.specs.Lists.{All}
-use Rattle.field.specs.Lent.{lent-numbers, lent-of}
+use Rattle.field.specs.Lent.{lent-refused, lent-later, lent-known}
 use Rattle.field.specs.Primes.{rows-power}
-use Rattle.field.specs.Reasons.{Reason, answerOf, lentReasons, reasonAt}
-use Rattle.field.specs.ReasonLaws.{refused-first, refused-later}
+use Rattle.field.specs.Reasons.{Reason, answerOf, reasonAt}
 use Rattle.circuit.specs.Reasons.{proveDue, numberReasons, badLabel}
 use Rattle.witnesses.proofs.reasons.of_buffers.Statement.{statement}
 use Rattle.witnesses.proofs.reasons.of_buffers.Tie as tie
 
--- the two parts
+-- the lengths, the elements end to end, and the reasons behind those of the lengths
 abbrev long : tie.Start → List ℕ
 long s =
     length (s .args .selectors .now) ∷ length (s .args .labels .now) ∷ length (s .args .witness .now) ∷ length (s .args .publics .now) ∷ length (s .args .transcript .now) ∷ length (s .args .challenges .now) ∷ length (s .args .scratch .now) ∷ []
 
-abbrev first : tie.Start → List Reason
-first s = lentReasons (s .args .p) (s .args .n) (s .args .l) (long s) (proveDue (s .args .n) (s .args .l))
-
 abbrev elements : tie.Start → List ℕ
 elements s = s .args .selectors .now ++ (s .args .witness .now ++ (s .args .publics .now ++ s .args .challenges .now))
 
-abbrev second : tie.Start → List Reason
-second s = numberReasons (s .args .p) (s .args .n) (elements s) (s .args .labels .now)
-
-first-right : (s : tie.Start) → All (λ r. r .number ≢ 0) (first s)
-first-right s = lent-numbers (s .args .p) (s .args .n) (s .args .l) (long s) (proveDue (s .args .n) (s .args .l))
+abbrev rest : tie.Start → List Reason
+rest s = numberReasons (s .args .p) (s .args .n) (elements s) (s .args .labels .now)
 
 abbrev start : tie.After-decide-lent → tie.Start
 start c = c .before .before .before .before .before .before .before .before .before .before .before
-
-decided : (c : tie.After-decide-lent) → c .decide-lent .result ≡ answerOf (first (start c))
-decided c =
-    let s = start c in
-    c .decide-lent .ensures ∙ ap (λ (due : List ℕ). answerOf (lentReasons (s .args .p) (s .args .n) (s .args .l) (long s) due)) (c .before .before .before .prove .ensures)
 
 -- what is known past the first part: places in the buffers are numbers of the machine
 count : (s : tie.Start) → length (s .args .selectors .now) + length (s .args .witness .now) + length (s .args .publics .now) + length (s .args .challenges .now) ≡ length (elements s)
@@ -47,7 +33,7 @@ count s = simp length-append (omega arith)
 few : (c : tie.Else1) → (start (c .before) .args .n ≤ 1024) × (length (elements (start (c .before))) ≤ 65536) × (length (start (c .before) .args .labels .now) ≤ 65536)
 few c =
     let s = start (c .before) in
-    let lent = lent-of (s .args .p) (s .args .n) (s .args .l) (long s) (proveDue (s .args .n) (s .args .l)) refl (sym (ap (λ a. a .number) (decided (c .before))) ∙ c .if1 .left) in
+    let lent = lent-known (s .args .p) (s .args .n) (s .args .l) (long s) (proveDue (s .args .n) (s .args .l)) (rest s) (c .before .before .before .before .prove .ensures) (c .before .decide-lent .ensures) (c .if1 .left) refl in
     let small : s .args .n ≤ 1024 = rows-power _ _ (lent .admissible .rows) .small in
     let least : s .args .l ≤ s .args .n = lent .publics-few in
     let a : length (s .args .selectors .now) ≡ 5 * s .args .n = cc (lent .lengths) in
@@ -70,7 +56,9 @@ decide-lent-requires : tie.Need-decide-lent-requires
 decide-lent-requires c κs = search needs
 
 returns : tie.Need-returns
-returns c = refused-first (first (start (c .before))) (second (start (c .before))) (first-right (start (c .before))) _ (decided (c .before)) (c .if1 .taken)
+returns c =
+    let s = start (c .before) in
+    lent-refused (s .args .p) (s .args .n) (s .args .l) (long s) (proveDue (s .args .n) (s .args .l)) (rest s) (c .before .before .before .before .prove .ensures) (c .before .decide-lent .ensures) (c .if1 .taken)
 
 first-of-four-requires : tie.Need-first-of-four-requires
 first-of-four-requires c κs = omega (arith, few c .1, count (start (c .before)))
@@ -93,7 +81,7 @@ returns-2 : tie.Need-returns-2
 returns-2 c =
     let d = c .before .before .before in
     let s = start d in
-    refused-later (first s) (second s) (first-right s) _ _ (decided d) (c .before .before .if1 .left)
+    lent-later (s .args .p) (s .args .n) (s .args .l) (long s) (proveDue (s .args .n) (s .args .l)) (rest s) (d .before .before .before .prove .ensures) (d .decide-lent .ensures) (c .before .before .if1 .left)
     (c .decide-numbers .ensures
     ∙ ap₂ (λ (at count : ℕ). answerOf (reasonAt 7 at count ∷ badLabel (s .args .n) (s .args .labels .now) ∷ [])) (c .before .first-of-four .ensures) (count s))
 
