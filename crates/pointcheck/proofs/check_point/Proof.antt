@@ -1,5 +1,7 @@
 -- `pointcheck::check_point` meets its contract: where no reason applies, the numbers are checked, and the work is done. Assumes nothing.
+use mathlib.Core.Path.{sym, ap, _∙_}
 use borrow.Author.Tests.{eq-eqb, ne-eqb}
+use Rattle.field.specs.declared.Answer.{Answer}
 use Rattle.pointcheck.proofs.Deciding.{checked}
 use borrow.Author.Needs.{needs}
 use Rattle.pointcheck.proofs.check_point.Statement.{statement}
@@ -11,7 +13,7 @@ decide-requires c κs = search needs
 work-requires : tie.Need-work-requires
 work-requires c κs =
     let a = c .before .before .before .before .before .before .before .before .before .args in
-    checked (a .p) (a .n) (a .l) (a .publics .now) (a .prepared .now) (a .transcript .now) (a .challenges .now) (a .scratch .now) _ (c .before .before .decide .ensures) (c .before .if1 .taken)
+    checked (a .p) (a .n) (a .l) (a .publics .now) (a .prepared .now) (a .transcript .now) (a .challenges .now) (a .scratch .now) (sym (ap (λ (d : Answer). d .number) (c .before .before .decide .ensures)) ∙ c .before .if1 .taken)
 
 same-length : tie.Need-same-length
 same-length c = search needs
