@@ -3,11 +3,12 @@
 // The public function is `lay_rows`, for the prover, which has checked its numbers.
 ghost use mathlib.Core.Path.{_≡_};
 ghost use mathlib.Core.List.{List};
-ghost use Prim.Native.Nat.{ℕ, _*_};
+ghost use Prim.Native.Nat.{ℕ};
 ghost use lib.ListN.{length};
-ghost use Rattle.transform.specs.Parts.{interpolated};
+ghost use Rattle.transform.specs.Parts.{laid};
+ghost use Rattle.circuit.specs.Buffers.{zStart, zLength, tStart};
 ghost use Rattle.circuit.specs.Circuit.{lentCircuit, lentWitness};
-ghost use Rattle.protocol.specs.Protocol.{zOf};
+ghost use Rattle.protocol.specs.Protocol.{wiresOf, zOf};
 ghost use Rattle.laying.specs.Rows.{laidRows};
 ghost use Rattle.laying.specs.Buffers.{Ready};
 
@@ -24,10 +25,10 @@ fn lay_wires(
     spare: &mut [u32],
 )
     requires { ⌜ Ready p n (now powers) (now labels) (now witness) ⌝ }
-    requires { ⌜ (length (now out) ≡ 3 * n) × (length (now spare) ≡ n) ⌝ }
-    ensures { λ _. ⌜ now (out .exit) ≡ interpolated p n (now (witness .entry)) 3 ⌝ }
+    requires { ⌜ (length (now out) ≡ zStart n) × (length (now spare) ≡ n) ⌝ }
+    ensures { λ _. ⌜ now (out .exit) ≡ laid (wiresOf p n (lentWitness n (now (witness .entry)))) 3 ⌝ }
 {
-    transform::slices::copy(witness, out);
+    circuit::wire_values(n as usize, witness, out);
     transform::interpolate_parts(p, n, powers, out, spare, 3);
 }
 
@@ -44,8 +45,8 @@ fn lay_z(
     spare: &mut [u32],
 )
     requires { ⌜ Ready p n (now powers) (now labels) (now witness) ⌝ }
-    requires { ⌜ (length (now out) ≡ n) × (length (now spare) ≡ n) ⌝ }
-    ensures { λ _. ⌜ ((selectors : List ℕ) → now (out .exit) ≡ zOf p n (lentCircuit n selectors (now (labels .entry))) (lentWitness (now (witness .entry))) beta gamma) ⌝ }
+    requires { ⌜ (length (now out) ≡ zLength n) × (length (now spare) ≡ n) ⌝ }
+    ensures { λ _. ⌜ ((selectors : List ℕ) → now (out .exit) ≡ zOf p n (lentCircuit n selectors (now (labels .entry))) (lentWitness n (now (witness .entry))) beta gamma) ⌝ }
 {
     grand::z_rows(p, n, labels, witness, beta, gamma, out);
     transform::interpolate_in_place(p, n, powers, out, spare);
@@ -64,10 +65,10 @@ pub fn lay_rows(
     spare: &mut [u32],
 )
     requires { ⌜ Ready p n (now powers) (now labels) (now witness) ⌝ }
-    requires { ⌜ (length (now out) ≡ 4 * n) × (length (now spare) ≡ n) ⌝ }
-    ensures { λ _. ⌜ ((selectors : List ℕ) → now (out .exit) ≡ laidRows p n (lentCircuit n selectors (now (labels .entry))) (lentWitness (now (witness .entry))) beta gamma) ⌝ }
+    requires { ⌜ (length (now out) ≡ tStart n) × (length (now spare) ≡ n) ⌝ }
+    ensures { λ _. ⌜ ((selectors : List ℕ) → now (out .exit) ≡ laidRows p n (lentCircuit n selectors (now (labels .entry))) (lentWitness n (now (witness .entry))) beta gamma) ⌝ }
 {
-    let k = 3 * (n as usize);
+    let k = circuit::z_start(n as usize);
     lay_wires(p, n, powers, labels, witness, &mut out[..k], spare);
     lay_z(
         p,

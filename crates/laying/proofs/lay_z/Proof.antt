@@ -18,10 +18,9 @@ interpolate-in-place-requires c κs =
     let s = c .before .before .before .before .before .before .before .before .before .before .before in
     let a = s .args in
     record {
-      admissible = s .pre .0 .points .admissible;
-      points = s .pre .0 .points .points;
+      domain-lent = s .pre .0 .points;
       elements =
-          z-elements (a .p) (a .n) (lentCircuit (a .n) [] (a .labels .now)) (lentWitness (a .witness .now)) (a .beta) (a .gamma) _
+          z-elements (a .p) (a .n) (lentCircuit (a .n) [] (a .labels .now)) (lentWitness (a .n) (a .witness .now)) (a .beta) (a .gamma) _
           (c .before .before .before .before .z-rows .ensures [])
           (field-prime _ (s .pre .0 .points .admissible .one-of-three) .two);
       spare = s .pre .1 .1;
@@ -37,7 +36,7 @@ returns : tie.Need-returns
 returns c selectors =
     let a = c .before .before .before .before .before .before .before .before .before .before .before .before .before .before .before .before .args in
     c .before .before .before .before .interpolate-in-place .ensures
-    ∙ z-polynomial (a .p) (a .n) (lentCircuit (a .n) selectors (a .labels .now)) (lentWitness (a .witness .now)) (a .beta) (a .gamma) _
+    ∙ z-polynomial (a .p) (a .n) (lentCircuit (a .n) selectors (a .labels .now)) (lentWitness (a .n) (a .witness .now)) (a .beta) (a .gamma) _
     (c .before .before .before .before .before .before .before .before .before .z-rows .ensures selectors)
 
 pub lay-z-spec : {M : Type 1} → statement M
