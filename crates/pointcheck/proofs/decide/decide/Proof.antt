@@ -1,44 +1,30 @@
 -- `pointcheck::decide::decide` meets its contract: the reasons of p, n, l and the lengths, then that of the numbers. Assumes nothing.
-use mathlib.Core.Path.{_≡_, refl, sym, ap, _∙_}
-use mathlib.Core.Logic.{_≢_}
+use mathlib.Core.Path.{_≡_, refl}
 use mathlib.Core.List.{List, [], _∷_, _++_}
 use Prim.Native.Nat.{ℕ}
 use native.Mathlib.Omega.{arith}
 use lib.ListN.{length}
-use Rattle.algebra.specs.Lists.{All}
 use Rattle.field.specs.Primes.{rows-power}
-use Rattle.field.specs.Reasons.{Reason, answerOf, lentReasons, badElement}
-use Rattle.field.specs.ReasonLaws.{refused-first, refused-later}
-use Rattle.field.specs.Lent.{lent-numbers, lent-of}
+use Rattle.field.specs.Reasons.{Reason, badElement}
+use Rattle.field.specs.Lent.{lent-refused, lent-later, lent-known}
 use Rattle.circuit.specs.Buffers.{preparedLength, transcriptLength}
 use Rattle.circuit.specs.Reasons.{pointDue}
 use borrow.Author.Needs.{needs}
 use Rattle.pointcheck.proofs.decide.decide.Statement.{statement}
 use Rattle.pointcheck.proofs.decide.decide.Tie as tie
 
--- the two parts, and that the first is decided
+-- the lengths, those due, and the reason behind theirs
 abbrev long : tie.Start → List ℕ
 long s = length (s .args .publics .now) ∷ length (s .args .prepared .now) ∷ length (s .args .transcript .now) ∷ length (s .args .challenges .now) ∷ length (s .args .scratch .now) ∷ []
 
 abbrev due : tie.Start → List ℕ
 due s = pointDue (s .args .n) (s .args .l)
 
-abbrev first : tie.Start → List Reason
-first s = lentReasons (s .args .p) (s .args .n) (s .args .l) (long s) (due s)
-
-abbrev second : tie.Start → List Reason
-second s = badElement (s .args .p) (s .args .publics .now ++ (s .args .prepared .now ++ (s .args .transcript .now ++ s .args .challenges .now))) ∷ []
-
-first-right : (s : tie.Start) → All (λ r. r .number ≢ 0) (first s)
-first-right s = lent-numbers (s .args .p) (s .args .n) (s .args .l) (long s) (due s)
+abbrev rest : tie.Start → List Reason
+rest s = badElement (s .args .p) (s .args .publics .now ++ (s .args .prepared .now ++ (s .args .transcript .now ++ s .args .challenges .now))) ∷ []
 
 abbrev start : tie.After-decide-lent → tie.Start
 start c = c .before .before .before .before .before .before .before .before .before
-
-decided : (c : tie.After-decide-lent) → c .decide-lent .result ≡ answerOf (first (start c))
-decided c =
-    let s = start c in
-    c .decide-lent .ensures ∙ ap (λ (due : List ℕ). answerOf (lentReasons (s .args .p) (s .args .n) (s .args .l) (long s) due)) (c .before .before .before .point .ensures)
 
 point-requires : tie.Need-point-requires
 point-requires c κs = search needs
@@ -53,12 +39,14 @@ decide-lent-requires : tie.Need-decide-lent-requires
 decide-lent-requires c κs = search needs
 
 returns : tie.Need-returns
-returns c = refused-first (first (start (c .before))) (second (start (c .before))) (first-right (start (c .before))) _ (decided (c .before)) (c .if1 .taken)
+returns c =
+    let s = start (c .before) in
+    lent-refused (s .args .p) (s .args .n) (s .args .l) (long s) (due s) (rest s) (c .before .before .before .before .point .ensures) (c .before .decide-lent .ensures) (c .if1 .taken)
 
 numbers-requires : tie.Need-numbers-requires
 numbers-requires c κs =
     let s = start (c .before) in
-    let lent = lent-of (s .args .p) (s .args .n) (s .args .l) (long s) (due s) refl (sym (ap (λ a. a .number) (decided (c .before))) ∙ c .if1 .left) in
+    let lent = lent-known (s .args .p) (s .args .n) (s .args .l) (long s) (due s) (rest s) (c .before .before .before .before .point .ensures) (c .before .decide-lent .ensures) (c .if1 .left) refl in
     let publics : length (s .args .publics .now) ≡ s .args .l = cc (lent .lengths) in
     let prepared : length (s .args .prepared .now) ≡ preparedLength (s .args .n) = cc (lent .lengths) in
     let transcript : length (s .args .transcript .now) ≡ transcriptLength (s .args .n) = cc (lent .lengths) in
@@ -67,8 +55,9 @@ numbers-requires c κs =
 
 returns-2 : tie.Need-returns-2
 returns-2 c =
-    let s = start (c .before .before) in
-    refused-later (first s) (second s) (first-right s) _ _ (decided (c .before .before)) (c .before .if1 .left) (c .numbers .ensures)
+    let d = c .before .before in
+    let s = start d in
+    lent-later (s .args .p) (s .args .n) (s .args .l) (long s) (due s) (rest s) (d .before .before .before .point .ensures) (d .decide-lent .ensures) (c .before .if1 .left) (c .numbers .ensures)
 
 pub decide-spec : {M : Type 1} → statement M
 decide-spec =
