@@ -5,7 +5,7 @@ use native.Mathlib.Omega.{arith}
 use lib.ListN.{length, take}
 use lib.Seq.{length-take-le}
 use borrow.Author.Needs.{needs}
-use Rattle.algebra.specs.Ends.{front-array}
+use Rattle.algebra.specs.Ends.{front-fits, front-is}
 use Rattle.algebra.specs.Lists.{tab}
 use Rattle.field.specs.Fields.{tag}
 use Rattle.field.specs.Primes.{rows-power}
@@ -55,8 +55,11 @@ returns c =
     let written = c .before .own-tags in
     let d = c .before .before .before .before in
     let a = d .before .before .args in
-    front-array (3 * a .n) (d .before .blank-3072 .result) (written .last .1 .1 .1 .0) (tags-fit d) (written .kept .1 .1 .1 .0) 3072 _ (d .before .blank-3072 .ensures)
-    (written .ensures ∙ ap (tab (tag (a .p) (a .n))) (tags-long d))
+    let blank = d .before .blank-3072 .result in
+    let front = written .last .1 .1 .1 .0 in (
+      front-fits (3 * a .n) blank front (tags-fit d) (written .kept .1 .1 .1 .0),
+      front-is (3 * a .n) blank front (tags-fit d) (written .kept .1 .1 .1 .0) ∙ written .ensures ∙ ap (tab (tag (a .p) (a .n))) (tags-long d),
+    )
 
 pub own-spec : {M : Type 1} → statement M
 own-spec =

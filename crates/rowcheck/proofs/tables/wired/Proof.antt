@@ -1,11 +1,11 @@
 -- `rowcheck::tables::wired` meets its contract: the tags are written into the first 3n words of the array. Assumes nothing.
-use mathlib.Core.Path.{sym}
+use mathlib.Core.Path.{sym, _∙_}
 use Prim.Native.Nat.{_*_, _≤_}
 use native.Mathlib.Omega.{arith}
 use lib.ListN.{length}
 use lib.Seq.{length-take-le}
 use borrow.Author.Needs.{needs}
-use Rattle.algebra.specs.Ends.{front-array}
+use Rattle.algebra.specs.Ends.{front-fits, front-is}
 use Rattle.field.specs.Primes.{rows-power}
 use Rattle.rowcheck.proofs.tables.wired.Statement.{statement}
 use Rattle.rowcheck.proofs.tables.wired.Tie as tie
@@ -48,7 +48,12 @@ returns : tie.Need-returns
 returns c =
     let written = c .before .wired-tags in
     let d = c .before .before .before .before in
-    front-array (3 * d .before .before .before .args .n) (d .before .blank-3072 .result) (written .last .1 .1 .1 .1 .0) (tags-fit d) (written .kept .1 .1 .1 .1 .0) 3072 _ (d .before .blank-3072 .ensures) (written .ensures)
+    let n = d .before .before .before .args .n in
+    let blank = d .before .blank-3072 .result in
+    let front = written .last .1 .1 .1 .1 .0 in (
+      front-fits (3 * n) blank front (tags-fit d) (written .kept .1 .1 .1 .1 .0),
+      front-is (3 * n) blank front (tags-fit d) (written .kept .1 .1 .1 .1 .0) ∙ written .ensures,
+    )
 
 pub wired-spec : {M : Type 1} → statement M
 wired-spec =

@@ -1,13 +1,14 @@
 -- `witnesses::reasons::of_buffers` meets its contract: the reasons of p, n, l and the lengths, then those of the numbers. Assumes nothing.
 use mathlib.Core.Path.{_≡_, refl, ap₂, _∙_}
 use mathlib.Core.List.{List, [], _∷_, _++_}
-use Prim.Native.Nat.{ℕ, _+_, _*_, _≤_}
+use Prim.Native.Nat.{ℕ, _+_, _≤_}
 use native.Mathlib.Omega.{arith}
 use lib.ListN.{length, length-append}
 use borrow.Author.Needs.{needs}
 use Rattle.field.specs.Lent.{lent-refused, lent-later, lent-known}
 use Rattle.field.specs.Primes.{rows-power}
 use Rattle.field.specs.Reasons.{Reason, answerOf, reasonAt}
+use Rattle.circuit.specs.Buffers.{selectorsLength, labelsLength, witnessLength}
 use Rattle.circuit.specs.Reasons.{proveDue, numberReasons, badLabel}
 use Rattle.witnesses.proofs.reasons.of_buffers.Statement.{statement}
 use Rattle.witnesses.proofs.reasons.of_buffers.Tie as tie
@@ -36,9 +37,9 @@ few c =
     let lent = lent-known (s .args .p) (s .args .n) (s .args .l) (long s) (proveDue (s .args .n) (s .args .l)) (rest s) (c .before .before .before .before .prove .ensures) (c .before .decide-lent .ensures) (c .if1 .left) refl in
     let small : s .args .n ≤ 1024 = rows-power _ _ (lent .admissible .rows) .small in
     let least : s .args .l ≤ s .args .n = lent .publics-few in
-    let a : length (s .args .selectors .now) ≡ 5 * s .args .n = cc (lent .lengths) in
-    let b : length (s .args .labels .now) ≡ 3 * s .args .n = cc (lent .lengths) in
-    let d : length (s .args .witness .now) ≡ 3 * s .args .n = cc (lent .lengths) in
+    let a : length (s .args .selectors .now) ≡ selectorsLength (s .args .n) = cc (lent .lengths) in
+    let b : length (s .args .labels .now) ≡ labelsLength (s .args .n) = cc (lent .lengths) in
+    let d : length (s .args .witness .now) ≡ witnessLength (s .args .n) = cc (lent .lengths) in
     let e : length (s .args .publics .now) ≡ s .args .l = cc (lent .lengths) in
     let f : length (s .args .challenges .now) ≡ 3 = cc (lent .lengths) in
     (small, omega (arith, count s), omega arith)
