@@ -5,7 +5,6 @@
 -- prove-taken   where all of it holds, no reason applies: buffers that are lent rightly, with a witness that satisfies the circuit and no zero factor, are never turned down
 -- buffer-numbers   no reason of the buffers has number 0
 -- buffers-of    where none of them applies, p, n, l, the lengths and the numbers are right
--- brokenGate-le, brokenCopy-le, zeroFactor-le   the row or position is at most their number
 --
 -- Assumes nothing.
 use mathlib.Core.Path.{_≡_, refl}
@@ -47,19 +46,20 @@ pub record Accepted (p n l : ℕ) (selectors labels witness publics transcript c
 at-end : {a m : ℕ} → a ≤ m → ltb a m ≡ false → a ≡ m
 at-end {a} {m} h e = omega (arith, ltb-false a m e)
 
-pub brokenGate-le : (p n : ℕ) (C : Circuit) (x v : ℕ → ℕ) → brokenGate p n C x v ≤ n
+at-none : {a m : ℕ} → a ≡ m → ltb a m ≡ false
+at-none {a} {m} e = le-ltb a m (omega arith)
+
+brokenGate-le : (p n : ℕ) (C : Circuit) (x v : ℕ → ℕ) → brokenGate p n C x v ≤ n
 unfolding brokenGate
 brokenGate-le p n C x v = first-le _ n
 
-pub brokenCopy-le : (n : ℕ) (C : Circuit) (v : ℕ → ℕ) → brokenCopy n C v ≤ 3 * n
+brokenCopy-le : (n : ℕ) (C : Circuit) (v : ℕ → ℕ) → brokenCopy n C v ≤ 3 * n
 unfolding brokenCopy
 brokenCopy-le n C v = first-le _ (3 * n)
 
-pub zeroFactor-le : (p n : ℕ) (C : Circuit) (v : ℕ → ℕ) (beta gamma : ℕ) → zeroFactor p n C v beta gamma ≤ n
+zeroFactor-le : (p n : ℕ) (C : Circuit) (v : ℕ → ℕ) (beta gamma : ℕ) → zeroFactor p n C v beta gamma ≤ n
 unfolding zeroFactor
 zeroFactor-le p n C v beta gamma = first-le _ n
-
--- THE REASONS
 
 module _ (p n l : ℕ) (selectors labels witness publics transcript challenges scratch : List ℕ) where
   abbrev long : List ℕ
@@ -72,20 +72,9 @@ module _ (p n l : ℕ) (selectors labels witness publics transcript challenges s
   abbrev buffers : List Reason
   buffers = proveBufferReasons p n l selectors labels witness publics transcript challenges scratch
 
-  abbrev C : Circuit
-  C = lentCircuit n selectors labels
-
-  abbrev x : ℕ → ℕ
-  x = lentPublic publics
-
-  abbrev v : ℕ → ℕ
-  v = lentWitness n witness
-
-  abbrev zeros : ℕ
-  zeros = zeroFactor p n C v (getD challenges 0 0) (getD challenges 1 0)
-
   abbrev ofWitness : List Reason
-  ofWitness = witnessReasons p n C x v (getD challenges 0 0) (getD challenges 1 0)
+  ofWitness =
+      witnessReasons p n (lentCircuit n selectors labels) (lentPublic publics) (lentWitness n witness) (getD challenges 0 0) (getD challenges 1 0)
 
   pub buffer-numbers : All (λ r. r .number ≢ 0) buffers
   buffer-numbers = (omega arith, (omega arith, (omega arith, (omega arith, (omega arith, (omega arith, tt))))))
@@ -101,14 +90,13 @@ module _ (p n l : ℕ) (selectors labels witness publics transcript challenges s
       let both = both-none buffers ofWitness buffer-numbers e in
       let known = buffers-of (both .0) in
       let lent = known .0 in
-      let all = known .1 .0 in
-      let later = all-right P selectors _ all in
+      let later = all-right P selectors _ (known .1 .0) in
       let last = all-right P witness _ later in
       let broken = none-applies ofWitness (omega arith, (omega arith, (omega arith, tt))) (both .1) in
       record {
         admissible = lent .admissible;
         circuit-right = record {
-          selectors-right = record { long = cc (lent .lengths); below = all-left P selectors _ all };
+          selectors-right = record { long = cc (lent .lengths); below = all-left P selectors _ (known .1 .0) };
           labels-right = record { long = cc (lent .lengths); below = known .1 .1 };
         };
         publics-right = record { few = lent .publics-few; elements = record { long = cc (lent .lengths); below = all-left P publics _ last } };
@@ -116,41 +104,21 @@ module _ (p n l : ℕ) (selectors labels witness publics transcript challenges s
         transcript-long = cc (lent .lengths);
         challenges-right = record { long = cc (lent .lengths); below = all-right P publics _ last };
         scratch-long = cc (lent .lengths);
-        satisfies = satisfied p n C x v (at-end (brokenGate-le p n C x v) (broken .0)) (at-end (brokenCopy-le n C v) (broken .1 .0));
-        no-zero = at-end (zeroFactor-le p n C v (getD challenges 0 0) (getD challenges 1 0)) (broken .1 .1 .0);
+        satisfies = satisfied p n _ _ _ (at-end (brokenGate-le p n _ _ _) (broken .0)) (at-end (brokenCopy-le n _ _) (broken .1 .0));
+        no-zero = at-end (zeroFactor-le p n _ _ _ _) (broken .1 .1 .0);
       }
 
-  taken-of : Accepted p n l selectors labels witness publics transcript challenges scratch
+  pub prove-taken : Accepted p n l selectors labels witness publics transcript challenges scratch
       → answerOf (proveReasons p n l selectors labels witness publics transcript challenges scratch) ≡ record { number = 0; detail = 0 }
-  taken-of A =
+  prove-taken A =
       let P : ℕ → Type 0 = λ a. a < p in
-      let circuit = A .circuit-right in
+      let C = A .circuit-right in
       let X = A .publics-right .elements in
-      let whole = unbroken p n C x v (A .satisfies) in
+      let whole = unbroken p n _ _ _ (A .satisfies) in
       both-taken buffers ofWitness buffer-numbers
       (lent-numbers-taken p n l long (proveDue n l) elements labels
-      (record {
-        admissible = A .admissible;
-        publics-few = A .publics-right .few;
-        lengths =
-            cc (
-              circuit .selectors-right .long,
-              circuit .labels-right .long,
-              A .witness-right .long,
-              X .long,
-              A .transcript-long,
-              A .challenges-right .long,
-              A .scratch-long,
-            );
-      })
-      (all-append P selectors _ (circuit .selectors-right .below)
+      (record { admissible = A .admissible; publics-few = A .publics-right .few; lengths = cc })
+      (all-append P selectors _ (C .selectors-right .below)
       (all-append P witness _ (A .witness-right .below) (all-append P publics _ (X .below) (A .challenges-right .below))))
-      (circuit .labels-right .below))
-      (taken ofWitness
-      (le-ltb (brokenGate p n C x v) n (omega (arith, whole .0)), (le-ltb (brokenCopy n C v) (3 * n) (omega (arith, whole .1)), (le-ltb zeros n (omega (arith, A .no-zero)), tt))))
-
-pub prove-taken : {p n l : ℕ} {selectors labels witness publics transcript challenges scratch : List ℕ}
-    → Accepted p n l selectors labels witness publics transcript challenges scratch
-    → answerOf (proveReasons p n l selectors labels witness publics transcript challenges scratch) ≡ record { number = 0; detail = 0 }
-prove-taken {p} {n} {l} {selectors} {labels} {witness} {publics} {transcript} {challenges} {scratch} =
-    taken-of p n l selectors labels witness publics transcript challenges scratch
+      (C .labels-right .below))
+      (taken ofWitness (at-none (whole .0), (at-none (whole .1), (at-none (A .no-zero), tt))))
