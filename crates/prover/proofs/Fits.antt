@@ -1,6 +1,6 @@
 -- The parts that are lent fit into their buffers, and what the buffers are when they come back.
 --
--- front-fits, spare-fits   a, b, c and z fit into the transcript, n words into the scratch
+-- transcript-fits, spare-fits   a, b, c and z fit into the transcript, n words into the scratch
 -- filling-fits, prepared-fits, room-fits, laid-fits   6n words into the scratch; the prepared circuit and the domain points into their arrays; a, b, c and z into the transcript
 -- rest-long         the words behind a, b, c and z are as many as t has
 -- laid-length       a, b, c and z end where t starts
@@ -23,8 +23,8 @@ use Rattle.prover.specs.Promises.{provedFrom}
 use Rattle.prover.specs.Buffers.{lentF, Ready, Front, laid-F}
 
 module _ {p n : ℕ} {labels witness transcript challenges scratch : List ℕ} (F : Front p n labels witness transcript challenges scratch) where
-  pub front-fits : tStart n ≤ length transcript
-  front-fits = omega (arith, F .transcript-long, rows-power p n (F .admissible .rows) .least)
+  pub transcript-fits : tStart n ≤ length transcript
+  transcript-fits = omega (arith, F .transcript-long, rows-power p n (F .admissible .rows) .least)
 
   pub spare-fits : n ≤ length scratch
   spare-fits = omega (arith, F .scratch-long)

@@ -4,8 +4,9 @@ use mathlib.Core.List.{List, _++_}
 use Prim.Native.Nat.{ℕ, _*_, _≤_}
 use native.Mathlib.Omega.{arith}
 use lib.ListN.{length, getD, drop}
-use lib.Seq.{take-at, length-take-le, length-front}
+use lib.Seq.{take-at, length-take-le}
 use borrow.Author.Needs.{needs}
+use Rattle.algebra.specs.Ends.{front-fits, front-is}
 use Rattle.algebra.specs.Polynomial.{reduced}
 use Rattle.circuit.specs.Circuit.{lentPublic}
 use Rattle.protocol.specs.Protocol.{pointF}
@@ -13,23 +14,25 @@ use Rattle.prover.proofs.Fits.{filling-fits, prepared-fits, room-fits}
 use Rattle.prover.proofs.fill_f.Statement.{statement}
 use Rattle.prover.proofs.fill_f.Tie as tie
 
+abbrev start : tie.After-prepared-length → tie.Start
+start c = c .before .before .before .before .before .before .before
+
 -- the arrays have room, and the one that is written still has
-prepared-fit : (c : tie.After-blank-8192) → 8 * c .before .before .before .before .before .before .before .args .n ≤ length (c .blank-8192 .result)
-prepared-fit c = prepared-fits (c .before .before .before .before .before .before .before .pre .0) (c .blank-8192 .result) (c .blank-8192 .ensures)
+prepared-fit : (c : tie.After-blank-8192) → c .before .prepared-length .result ≤ length (c .blank-8192 .result)
+prepared-fit c = omega (arith, c .before .prepared-length .ensures, prepared-fits (start (c .before) .pre .0) (c .blank-8192 .result) (c .blank-8192 .ensures))
 
-powers-fit : (c : tie.After-domain-points) → c .before .before .before .before .before .before .before .before .args .n ≤ length (c .domain-points .result)
-powers-fit c = room-fits (c .before .before .before .before .before .before .before .before .pre .0) (c .domain-points .result) (c .domain-points .ensures .0)
+powers-fit : (c : tie.After-domain-points) → start (c .before .before) .args .n ≤ length (c .domain-points .result)
+powers-fit c = room-fits (start (c .before .before) .pre .0) (c .domain-points .result) (c .domain-points .ensures .0)
 
-still-fit : (c : tie.After-work) → 8 * c .before .before .before .before .before .before .before .before .before .before .before .args .n ≤ length (c .work .last .1 .1 .1 .1 .0 ++ drop (8 * c .before .before .before .before .before .before .before .before .before .before .before .args .n) (c .before .before .before .before .blank-8192 .result))
-still-fit c =
-    omega (arith, length-front (c .before .before .before .before .blank-8192 .result) (c .work .last .1 .1 .1 .1 .0) (8 * c .before .before .before .before .before .before .before .before .before .before .before .args .n) (c .work .kept .1 .1 .1 .1 .0), prepared-fit (c .before .before .before .before))
+still-fit : (c : tie.After-work) → c .before .before .before .before .before .prepared-length .result ≤ length (c .work .last .1 .1 .1 .1 .0 ++ drop (c .before .before .before .before .before .prepared-length .result) (c .before .before .before .before .blank-8192 .result))
+still-fit c = front-fits (c .before .before .before .before .before .prepared-length .result) (c .before .before .before .before .blank-8192 .result) (c .work .last .1 .1 .1 .1 .0) (prepared-fit (c .before .before .before .before)) (c .work .kept .1 .1 .1 .1 .0)
 
 -- F has room in the scratch
-scratch-fit : (c : tie.After-work) → 6 * c .before .before .before .before .before .before .before .before .before .before .before .args .n ≤ length (c .work .last .1 .1 .1 .1 .1 .0)
-scratch-fit c = omega (arith, c .work .kept .1 .1 .1 .1 .1 .0, filling-fits (c .before .before .before .before .before .before .before .before .before .before .before .pre .0))
+scratch-fit : (c : tie.After-work) → 6 * start (c .before .before .before .before .before) .args .n ≤ length (c .work .last .1 .1 .1 .1 .1 .0)
+scratch-fit c = omega (arith, c .work .kept .1 .1 .1 .1 .1 .0, filling-fits (start (c .before .before .before .before .before) .pre .0))
 
-mul-k : tie.Need-mul-k
-mul-k c = search needs
+prepared-length-requires : tie.Need-prepared-length-requires
+prepared-length-requires c κs = search needs
 
 mul-end : tie.Need-mul-end
 mul-end c = search needs
@@ -48,12 +51,12 @@ slice-aggregate-work c = sym (length-take-le _ _ (prepared-fit (c .before .befor
 
 work-requires : tie.Need-work-requires
 work-requires c κs =
-    let R = c .before .before .before .before .before .before .before .before .before .before .pre .0 in
+    let R = start (c .before .before .before .before) .pre .0 in
     record {
       admissible = R .admissible;
       elements = R .circuit-right .selectors-right;
       labelled = R .circuit-right .labels-right;
-      written-length = length-take-le _ _ (prepared-fit (c .before .before .before));
+      written-length = length-take-le _ _ (prepared-fit (c .before .before .before)) ∙ c .before .before .before .before .prepared-length .ensures;
       scratch-length = R .scratch-long;
     }
 
@@ -86,11 +89,11 @@ slice-aggregate-fill-3 c = sym (length-take-le _ _ (scratch-fit (c .before .befo
 
 fill-requires : tie.Need-fill-requires
 fill-requires c κs =
-    let s = c .before .before .before .before .before .before .before .before .before .before .before .before .before .before .before .before .before .before .before .before in
+    let s = start (c .before .before .before .before .before .before .before .before .before .before .before .before .before .before) in
     record {
       points = record { admissible = s .pre .0 .admissible; points = c .before .before .before .before .before .before .before .before .before .before .before .before .domain-points .ensures .1 };
       public-rows = record { admissible = s .pre .0 .admissible; elements = s .pre .0 .publics-below };
-      prepared-length = length-take-le _ _ (still-fit (c .before .before .before .before .before .before .before .before .before));
+      prepared-length = length-take-le _ _ (still-fit (c .before .before .before .before .before .before .before .before .before)) ∙ c .before .before .before .before .before .before .before .before .before .before .before .before .before .before .prepared-length .ensures;
       laid-length = s .pre .1;
       out-length = length-take-le _ _ (scratch-fit (c .before .before .before .before .before .before .before .before .before));
     }
@@ -100,20 +103,20 @@ same-length c = search needs
 
 returns : tie.Need-returns
 returns c =
-    let a = c .before .before .before .before .before .before .before .before .before .before .before .before .before .before .before .before .before .before .before .before .before .before .before .args in
+    let a = start (c .before .before .before .before .before .before .before .before .before .before .before .before .before .before .before .before .before) .args in
     let f = c .before .before .fill in
     let w = c .before .before .before .before .before .before .before .before .before .before .before .before .work in
     let d = a .challenges .now in
     take-at (f .last .1 .1 .1 .1 .1 .1 .1 .1 .1 .0) _ (6 * a .n) (f .kept .1 .1 .1 .1 .1 .1 .1 .1 .1 .0 ∙ length-take-le _ _ (scratch-fit (c .before .before .before .before .before .before .before .before .before .before .before .before)))
     ∙ f .ensures
     ∙ ap (λ (pre : List ℕ). reduced (a .p) (6 * a .n) (pointF (a .p) (a .n) pre (lentPublic (a .publics .now)) (a .laid .now) (getD d 0 0) (getD d 1 0) (getD d 2 0)))
-    (take-at (w .last .1 .1 .1 .1 .0) _ (8 * a .n) (w .kept .1 .1 .1 .1 .0 ∙ length-take-le _ _ (prepared-fit (c .before .before .before .before .before .before .before .before .before .before .before .before .before .before .before .before))) ∙ w .ensures .0)
+    (front-is _ _ _ (prepared-fit (c .before .before .before .before .before .before .before .before .before .before .before .before .before .before .before .before)) (w .kept .1 .1 .1 .1 .0) ∙ w .ensures .0)
 
 pub fill-f-spec : {M : Type 1} → statement M
 fill-f-spec =
     tie.close
     (tie.spec
-    mul-k
+    prepared-length-requires
     mul-end
     blank-8192-requires
     domain-points-requires

@@ -1,5 +1,5 @@
 -- `prover::lay_front` meets its contract: a, b, c and z in front, the rest as it was. Assumes nothing.
-use mathlib.Core.Path.{sym, ap}
+use mathlib.Core.Path.{sym, ap, _∙_}
 use mathlib.Core.List.{List, _++_}
 use Prim.Native.Nat.{ℕ, _*_, _≤_}
 use native.Mathlib.Omega.{arith}
@@ -7,16 +7,23 @@ use lib.ListN.{length, drop}
 use lib.Seq.{length-take-le}
 use borrow.Author.Needs.{needs}
 use Rattle.field.specs.Primes.{rows-power}
-use Rattle.prover.proofs.Fits.{front-fits, spare-fits}
+use Rattle.circuit.specs.Buffers.{tStart}
+use Rattle.prover.proofs.Fits.{transcript-fits, spare-fits}
 use Rattle.prover.proofs.lay_front.Statement.{statement}
 use Rattle.prover.proofs.lay_front.Tie as tie
 
--- the array of powers has room for n words
-powers-fit : (c : tie.After-domain-points) → c .before .before .before .before .before .before .args .n ≤ length (c .domain-points .result)
-powers-fit c = omega (arith, rows-power _ _ (c .before .before .before .before .before .before .pre .admissible .rows) .small, c .domain-points .ensures .0)
+abbrev start : tie.After-t-start → tie.Start
+start c = c .before .before .before .before .before .before
 
-mul-end : tie.Need-mul-end
-mul-end c = search needs
+-- the array of powers has room for n words, and the transcript for a, b, c and z
+powers-fit : (c : tie.After-domain-points) → start (c .before) .args .n ≤ length (c .domain-points .result)
+powers-fit c = omega (arith, rows-power _ _ (start (c .before) .pre .admissible .rows) .small, c .domain-points .ensures .0)
+
+front-fit : (c : tie.After-t-start) → c .t-start .result ≤ length (start c .args .transcript .now)
+front-fit c = omega (arith, c .t-start .ensures, transcript-fits (start c .pre))
+
+t-start-requires : tie.Need-t-start-requires
+t-start-requires c κs = search needs
 
 domain-points-requires : tie.Need-domain-points-requires
 domain-points-requires c κs = search needs
@@ -34,26 +41,26 @@ shared-slice-read-lay-rows-2 : tie.Need-shared-slice-read-lay-rows-2
 shared-slice-read-lay-rows-2 c = search needs
 
 slice-relend-prefix-lay-rows : tie.Need-slice-relend-prefix-lay-rows
-slice-relend-prefix-lay-rows c = front-fits (c .before .before .before .before .before .before .before .before .before .pre)
+slice-relend-prefix-lay-rows c = front-fit (c .before .before .before .before)
 
 slice-aggregate-lay-rows-2 : tie.Need-slice-aggregate-lay-rows-2
-slice-aggregate-lay-rows-2 c = sym (length-take-le _ _ (front-fits (c .before .before .before .before .before .before .before .before .before .before .pre)))
+slice-aggregate-lay-rows-2 c = sym (length-take-le _ _ (front-fit (c .before .before .before .before .before)))
 
 slice-relend-prefix-lay-rows-2 : tie.Need-slice-relend-prefix-lay-rows-2
 slice-relend-prefix-lay-rows-2 c = search needs
 
 slice-aggregate-lay-rows-3 : tie.Need-slice-aggregate-lay-rows-3
-slice-aggregate-lay-rows-3 c = sym (length-take-le _ _ (spare-fits (c .before .before .before .before .before .before .before .before .before .before .before .pre)))
+slice-aggregate-lay-rows-3 c = sym (length-take-le _ _ (spare-fits (start (c .before .before .before .before .before .before) .pre)))
 
 lay-rows-requires : tie.Need-lay-rows-requires
 lay-rows-requires c κs =
-    let s = c .before .before .before .before .before .before .before .before .before .before .before in (
+    let s = start (c .before .before .before .before .before .before) in (
       record {
         points = record { admissible = s .pre .admissible; points = c .before .before .before .before .before .domain-points .ensures .1 };
         labelled = s .pre .labelled;
         elements = s .pre .elements;
       },
-      (length-take-le _ _ (front-fits (s .pre)), length-take-le _ _ (spare-fits (s .pre))),
+      (length-take-le _ _ (front-fit (c .before .before .before .before .before .before)) ∙ c .before .before .before .before .before .before .t-start .ensures, length-take-le _ _ (spare-fits (s .pre))),
     )
 
 same-length : tie.Need-same-length
@@ -64,14 +71,15 @@ same-length-2 c = search needs
 
 returns : tie.Need-returns
 returns c selectors =
-    let a = c .before .before .before .before .before .before .before .before .before .before .before .before .before .before .before .before .args in
-    ap (λ (l : List ℕ). l ++ drop (4 * a .n) (a .transcript .now)) (c .before .before .before .before .lay-rows .ensures selectors)
+    let a = start (c .before .before .before .before .before .before .before .before .before .before .before) .args in
+    let d = c .before .before .before .before .before .before .before .before .before .before .before .t-start in
+    rw (d .ensures) (ap (λ (l : List ℕ). l ++ drop (tStart (a .n)) (a .transcript .now)) (c .before .before .before .before .lay-rows .ensures selectors))
 
 pub lay-front-spec : {M : Type 1} → statement M
 lay-front-spec =
     tie.close
     (tie.spec
-    mul-end
+    t-start-requires
     domain-points-requires
     array-share-prefix-powers
     slice-aggregate-lay-rows

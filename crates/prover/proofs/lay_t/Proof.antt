@@ -1,5 +1,5 @@
 -- `prover::lay_t` meets its contract: F in the scratch, and its quotient behind a, b, c and z. Assumes nothing.
-use mathlib.Core.Path.{sym, ap, _∙_}
+use mathlib.Core.Path.{_≡_, sym, ap, ap₂, _∙_}
 use mathlib.Core.List.{List, _++_}
 use Prim.Native.Nat.{ℕ, _*_, _≤_}
 use native.Mathlib.Omega.{arith}
@@ -7,32 +7,41 @@ use lib.ListN.{length, getD, take}
 use lib.Seq.{length-take-le}
 use borrow.Author.Needs.{needs}
 use Rattle.algebra.specs.Ends.{rest-put}
+use Rattle.algebra.specs.Polynomial.{reduced}
 use Rattle.field.specs.Primes.{rows-power, field-prime}
 use Rattle.circuit.specs.Circuit.{lentCircuit, lentPublic}
+use Rattle.circuit.specs.Buffers.{tStart}
 use Rattle.protocol.specs.Protocol.{prepared}
 use Rattle.quotients.specs.Lengths.{length-pointF}
+use Rattle.prover.specs.Buffers.{lentF}
 use Rattle.prover.proofs.Fits.{filling-fits, laid-fits, rest-long}
 use Rattle.prover.proofs.lay_t.Statement.{statement}
 use Rattle.prover.proofs.lay_t.Tie as tie
 
--- F is in the scratch
-scratch-fit : (c : tie.After-fill-f) → 6 * c .before .before .before .before .before .before .before .before .before .args .n ≤ length (c .fill-f .last .1 .1 .1 .1 .1 .1 .1 .0)
-scratch-fit c = omega (arith, c .fill-f .kept .1 .1 .1 .1 .1 .1 .1 .0, filling-fits (c .before .before .before .before .before .before .before .before .before .pre .0))
+abbrev start : tie.After-t-start → tie.Start
+start c = c .before .before .before .before .before .before .before
 
-mul-at : tie.Need-mul-at
-mul-at c = search needs
+-- F is in the scratch, and a, b, c and z in the transcript
+scratch-fit : (c : tie.After-fill-f) → 6 * start (c .before .before .before) .args .n ≤ length (c .fill-f .last .1 .1 .1 .1 .1 .1 .1 .0)
+scratch-fit c = omega (arith, c .fill-f .kept .1 .1 .1 .1 .1 .1 .1 .0, filling-fits (start (c .before .before .before) .pre .0))
+
+laid-fit : (c : tie.After-t-start) → c .t-start .result ≤ length (start c .args .transcript .now)
+laid-fit c = omega (arith, c .t-start .ensures, laid-fits (start c .pre .0) (start c .args .transcript .now) (start c .pre .1))
+
+t-start-requires : tie.Need-t-start-requires
+t-start-requires c κs = search needs
 
 mul-end : tie.Need-mul-end
 mul-end c = search needs
 
 slice-reshare-prefix-fill-f : tie.Need-slice-reshare-prefix-fill-f
-slice-reshare-prefix-fill-f c = laid-fits (c .before .before .before .before .before .before .pre .0) (c .before .before .before .before .before .before .args .transcript .now) (c .before .before .before .before .before .before .pre .1)
+slice-reshare-prefix-fill-f c = laid-fit c
 
 slice-aggregate-fill-f : tie.Need-slice-aggregate-fill-f
-slice-aggregate-fill-f c = sym (length-take-le _ _ (laid-fits (c .before .before .before .before .before .before .before .pre .0) (c .before .before .before .before .before .before .before .args .transcript .now) (c .before .before .before .before .before .before .before .pre .1)))
+slice-aggregate-fill-f c = sym (length-take-le _ _ (laid-fit (c .before)))
 
 fill-f-requires : tie.Need-fill-f-requires
-fill-f-requires c κs = (c .before .before .before .before .before .before .before .before .pre .0, length-take-le _ _ (laid-fits (c .before .before .before .before .before .before .before .before .pre .0) (c .before .before .before .before .before .before .before .before .args .transcript .now) (c .before .before .before .before .before .before .before .before .pre .1)))
+fill-f-requires c κs = (start (c .before .before) .pre .0, length-take-le _ _ (laid-fit (c .before .before)) ∙ c .before .before .t-start .ensures)
 
 slice-reshare-prefix-divide : tie.Need-slice-reshare-prefix-divide
 slice-reshare-prefix-divide c = scratch-fit (c .before .before)
@@ -54,10 +63,10 @@ part-divide-end c = search needs
 
 divide-requires : tie.Need-divide-requires
 divide-requires c κs =
-    let s = c .before .before .before .before .before .before .before .before .before .before .before .before .before in
+    let s = start (c .before .before .before .before .before .before .before) in
     let A = s .pre .0 .admissible in (
       (omega (arith, field-prime _ (A .one-of-three) .two), rows-power _ _ (A .rows) .least),
-      (length-take-le _ _ (scratch-fit (c .before .before .before .before)), rest-long (s .pre .0) (s .args .transcript .now) (s .pre .1)),
+      (length-take-le _ _ (scratch-fit (c .before .before .before .before)), rw (c .before .before .before .before .before .before .before .t-start .ensures) (rest-long (s .pre .0) (s .args .transcript .now) (s .pre .1))),
     )
 
 same-length : tie.Need-same-length
@@ -68,26 +77,29 @@ same-length-2 c = search needs
 
 returns : tie.Need-returns
 returns c =
-    let s = c .before .before .before .before .before .before .before .before .before .before .before .before .before .before .before .before in
+    let s = start (c .before .before .before .before .before .before .before .before .before .before) in
     let a = s .args in
     let T = a .transcript .now in
     let d = a .challenges .now in
     let t = c .before .before .divide in
-    rest-put (4 * a .n) T (t .last .1 .1 .1 .0)
-    ∙ ap (λ (l : List ℕ). take (4 * a .n) T ++ l)
+    let at : c .before .before .before .before .before .before .before .before .before .before .t-start .result ≡ tStart (a .n) = c .before .before .before .before .before .before .before .before .before .before .t-start .ensures in
+    let front : take (c .before .before .before .before .before .before .before .before .before .before .t-start .result) T ≡ take (tStart (a .n)) T = ap (λ (k : ℕ). take k T) at in
+    rest-put (c .before .before .before .before .before .before .before .before .before .before .t-start .result) T (t .last .1 .1 .1 .0)
+    ∙ ap₂ (λ (k l : List ℕ). k ++ l) front
     (t .ensures _
-    (length-pointF (a .p) (a .n) (prepared (a .p) (a .n) (lentCircuit (a .n) (a .selectors .now) (a .labels .now))) (lentPublic (a .publics .now)) (take (4 * a .n) T)
+    (length-pointF (a .p) (a .n) (prepared (a .p) (a .n) (lentCircuit (a .n) (a .selectors .now) (a .labels .now))) (lentPublic (a .publics .now)) (take (tStart (a .n)) T)
     (getD d 0 0)
     (getD d 1 0)
     (getD d 2 0)
     (rows-power _ _ (s .pre .0 .admissible .rows) .least))
-    (c .before .before .before .before .before .before .before .fill-f .ensures))
+    (c .before .before .before .before .before .before .before .fill-f .ensures
+    ∙ ap (λ (l : List ℕ). reduced (a .p) (6 * a .n) (lentF (a .p) (a .n) (a .selectors .now) (a .labels .now) (a .publics .now) l d)) front))
 
 pub lay-t-spec : {M : Type 1} → statement M
 lay-t-spec =
     tie.close
     (tie.spec
-    mul-at
+    t-start-requires
     mul-end
     slice-reshare-prefix-fill-f
     slice-aggregate-fill-f
