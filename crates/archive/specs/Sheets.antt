@@ -10,39 +10,41 @@
 -- sheet-text, unread-text   the text of the numbers that are read, and of a refusal, is the text of the deposit
 -- DEPOSITS
 -- puts-fits       a text that is put fits
--- refused-deposit, made-deposit   the promise of `deposit`, where the buffer's length is wrong and where it is right
+-- refused-deposit, made-deposit   the promise of `deposit`, where it is turned down and where not
+-- text-long       where it is not turned down, the buffer has the text's length
 --
 -- Assumes nothing.
 use mathlib.Core.Path.{_≡_, refl, sym, ap, _∙_}
 use mathlib.Core.Logic.{_≢_}
-use mathlib.Core.Bool.{true, false, not}
-use mathlib.Core.List.{List, _++_, append-nil}
-use Prim.Native.Nat.{ℕ, _*_, _-_, _≤_, _<_}
+use mathlib.Core.Bool.{true, false}
+use mathlib.Core.List.{List, [], _∷_, _++_, append-nil}
+use Prim.Native.Nat.{ℕ, _-_, _≤_, _<_}
 use native.Mathlib.Omega.{arith}
-use lib.Dec.{ltb}
 use lib.ListN.{length, take, replicate, length-take}
 use lib.Seq.{take-at}
-use borrow.Author.Tests.{not-false, ltb-false, eq-eqb, ne-eqb}
-use Rattle.algebra.specs.Lists.{All, tab}
+use borrow.Author.Tests.{eq-eqb, ne-eqb}
+use Rattle.algebra.specs.Lists.{tab}
 use Rattle.algebra.specs.Polynomial.{Elements}
-use Rattle.algebra.specs.Search.{both-false}
 use Rattle.algebra.specs.Tables.{length-tab, all-right}
 use Rattle.field.specs.declared.Answer.{Answer}
-use Rattle.field.specs.Fields.{isRows, Admissible}
+use Rattle.field.specs.Fields.{Admissible}
 use Rattle.field.specs.Primes.{rows-power}
-use Rattle.field.specs.Reasons.{isAccepted}
-use Rattle.field.specs.ReasonLaws.{none-applies, elements-of}
-use Rattle.sheet.specs.Sheet.{sheetP, sheetN, sheetL, onSelectors, onLabels, onWitness, onPublics, onChallenges, padded, sheetElements, sheetReasons, readAnswer}
+use Rattle.field.specs.Lent.{lengths-same}
+use Rattle.field.specs.Reasons.{answerOf, isAccepted}
+use Rattle.field.specs.ReasonLaws.{none-applies}
+use Rattle.circuit.specs.Buffers.{selectorsLength, labelsLength, witnessLength}
+use Rattle.sheet.specs.Sheet.{sheetRows, sheetP, sheetN, sheetL, onSelectors, onLabels, onWitness, onPublics, onChallenges, padded, sheetDue, readAnswer}
+use Rattle.sheet.specs.Deciding.{taken-of}
 use Rattle.sheet.specs.declared.SheetAnswer.{SheetAnswer}
 use Rattle.sheet.specs.Promises.{Reads}
 use Rattle.archive.specs.Printed.{refusedText, textLength, workText}
 use Rattle.archive.specs.Puts.{Puts}
 use Rattle.archive.specs.Work.{Workable}
-use Rattle.archive.specs.Deposit.{depositText, Deposits}
+use Rattle.archive.specs.Deposit.{depositText, depositDue, depositReasons, Deposits}
 
 pub record Right (s : List ℕ) : Type 0 where
   pub admissible : Admissible (sheetP s) (sheetN s)
-  pub few-rows : sheetN s ≤ 256
+  pub few-rows : sheetN s ≤ sheetRows
   pub few-publics : sheetL s ≤ sheetN s
   pub challenges-right : Elements (sheetP s) 4 (tab (onChallenges s (sheetN s) (sheetL s)) 4)
 
@@ -51,21 +53,16 @@ right-of s e =
     let n : ℕ = sheetN s in
     let l : ℕ = sheetL s in
     let P : ℕ → Type 0 = λ a. a < sheetP s in
-    let none =
-    none-applies (sheetReasons s 1280 768 768 256 4)
-    (omega arith, (omega arith, (omega arith, (omega arith, (omega arith, (omega arith, (omega arith, (omega arith, (omega arith, (omega arith, (omega arith, (omega arith, tt))))))))))))
-    e in
-    let rows = none .1 .1 .0 in
-    let all : All P (sheetElements s n l) = elements-of (sheetP s) _ (none .1 .1 .1 .1 .1 .1 .1 .1 .1 .1 .0) in
+    let taken = taken-of s (sheetDue (length s)) refl e in
     record {
-      admissible = record { one-of-three = not-false _ (none .1 .0); rows = not-false _ (both-false (not (isRows (sheetP s) n)) (ltb 256 n) rows .0) };
-      few-rows = ltb-false 256 n (both-false (not (isRows (sheetP s) n)) (ltb 256 n) rows .1);
-      few-publics = ltb-false n l (none .1 .1 .1 .0);
+      admissible = taken .shape .admissible;
+      few-rows = taken .shape .few;
+      few-publics = taken .shape .publics-few;
       challenges-right = record {
         long = length-tab (onChallenges s n l) 4;
         below =
             all-right P (tab (onPublics s n l) l) _
-            (all-right P (tab (onWitness s n l) (3 * n)) _ (all-right P (tab (onSelectors s n l) (5 * n)) _ all));
+            (all-right P (tab (onWitness s n l) (witnessLength n)) _ (all-right P (tab (onSelectors s n l) (selectorsLength n)) _ (taken .elements)));
       };
     }
 
@@ -75,10 +72,10 @@ take-padded : (m : ℕ) (f : ℕ → ℕ) (k : ℕ) → take k (padded m f k) �
 take-padded m f k = take-at (tab f k) (replicate (m - k) 0) k (length-tab f k)
 
 pub record Arrays (selectors labels witness publics challenges : List ℕ) : Type 0 where
-  pub selectors-long : 1280 ≡ length selectors
-  pub labels-long : 768 ≡ length labels
-  pub witness-long : 768 ≡ length witness
-  pub publics-long : 256 ≡ length publics
+  pub selectors-long : selectorsLength sheetRows ≡ length selectors
+  pub labels-long : labelsLength sheetRows ≡ length labels
+  pub witness-long : witnessLength sheetRows ≡ length witness
+  pub publics-long : sheetRows ≡ length publics
   pub challenges-long : 4 ≡ length challenges
 
 module _ (s selectors labels witness publics challenges : List ℕ) (r : SheetAnswer) (selectors' labels' witness' publics' challenges' : List ℕ)
@@ -123,14 +120,14 @@ module _ (s selectors labels witness publics challenges : List ℕ) (r : SheetAn
           room = t;
         }
 
-    pub sheet-text : workText (r .p) (r .n) (r .l) (take (5 * r .n) selectors') (take (3 * r .n) labels') (take (3 * r .n) witness') (take (r .l) publics') challenges'
+    pub sheet-text : workText (r .p) (r .n) (r .l) (take (selectorsLength (r .n)) selectors') (take (labelsLength (r .n)) labels') (take (witnessLength (r .n)) witness') (take (r .l) publics') challenges'
         ≡ depositText s
     unfolding depositText
     sheet-text =
-        let selectors-read : selectors' ≡ padded 1280 (onSelectors s (sheetN s) (sheetL s)) (5 * sheetN s) = R .selectors-laid ∙ rw accepted in
-        let labels-read : labels' ≡ padded 768 (onLabels s (sheetN s) (sheetL s)) (3 * sheetN s) = R .labels-laid ∙ rw accepted in
-        let witness-read : witness' ≡ padded 768 (onWitness s (sheetN s) (sheetL s)) (3 * sheetN s) = R .witness-laid ∙ rw accepted in
-        let publics-read : publics' ≡ padded 256 (onPublics s (sheetN s) (sheetL s)) (sheetL s) = R .publics-laid ∙ rw accepted in
+        let selectors-read : selectors' ≡ padded (selectorsLength sheetRows) (onSelectors s (sheetN s) (sheetL s)) (selectorsLength (sheetN s)) = R .selectors-laid ∙ rw accepted in
+        let labels-read : labels' ≡ padded (labelsLength sheetRows) (onLabels s (sheetN s) (sheetL s)) (labelsLength (sheetN s)) = R .labels-laid ∙ rw accepted in
+        let witness-read : witness' ≡ padded (witnessLength sheetRows) (onWitness s (sheetN s) (sheetL s)) (witnessLength (sheetN s)) = R .witness-laid ∙ rw accepted in
+        let publics-read : publics' ≡ padded sheetRows (onPublics s (sheetN s) (sheetL s)) (sheetL s) = R .publics-laid ∙ rw accepted in
         let yes : isAccepted (readAnswer s) ≡ true = ap isAccepted (sym read-answer) ∙ accepted in
         rw (
           p-read,
@@ -141,10 +138,10 @@ module _ (s selectors labels witness publics challenges : List ℕ) (r : SheetAn
           witness-read,
           publics-read,
           challenges-read,
-          take-padded 1280 (onSelectors s (sheetN s) (sheetL s)) (5 * sheetN s),
-          take-padded 768 (onLabels s (sheetN s) (sheetL s)) (3 * sheetN s),
-          take-padded 768 (onWitness s (sheetN s) (sheetL s)) (3 * sheetN s),
-          take-padded 256 (onPublics s (sheetN s) (sheetL s)) (sheetL s),
+          take-padded (selectorsLength sheetRows) (onSelectors s (sheetN s) (sheetL s)) (selectorsLength (sheetN s)),
+          take-padded (labelsLength sheetRows) (onLabels s (sheetN s) (sheetL s)) (labelsLength (sheetN s)),
+          take-padded (witnessLength sheetRows) (onWitness s (sheetN s) (sheetL s)) (witnessLength (sheetN s)),
+          take-padded sheetRows (onPublics s (sheetN s) (sheetL s)) (sheetL s),
           yes,
         )
 
@@ -159,22 +156,27 @@ module _ (s selectors labels witness publics challenges : List ℕ) (r : SheetAn
 pub puts-fits : {bytes out : List ℕ} (r : ℕ) (out' : List ℕ) → Puts 0 bytes out r out' → r ≤ length out'
 puts-fits r out' P = omega (arith, P .place, ap length (P .text), length-take r out')
 
-pub refused-deposit : (s text : List ℕ) (a : Answer) → a ≡ record { number = 6; detail = 2 } → length text ≢ textLength
+pub refused-deposit : (s text : List ℕ) (a : Answer) → a ≡ answerOf (depositReasons s text) → a .number ≢ 0
     → Deposits s text record { answer = a; length = 0 } text
-refused-deposit s text a e h = rw e record { answer = rw (ne-eqb (length text) textLength h); long = refl; prints = refl }
+refused-deposit s text a e h = record { answer = e; long = rw (ne-eqb (a .number) 0 h); prints = rw (ne-eqb (a .number) 0 h) }
 
-pub made-deposit : (s text : List ℕ) (a : Answer) (end : ℕ) (text' last : List ℕ) → a ≡ record { number = 0; detail = 0 } → length text ≡ textLength
+pub text-long : (s text : List ℕ) (a : Answer) → a ≡ answerOf (depositReasons s text) → a .number ≡ 0 → length text ≡ textLength
+text-long s text a e h =
+    let none = none-applies (depositReasons s text) (omega arith, tt) (sym (ap (λ (b : Answer). b .number) e) ∙ h) in
+    cc (lengths-same (length s ∷ length text ∷ []) (depositDue (length s)) refl (none .0))
+
+pub made-deposit : (s text : List ℕ) (a : Answer) (end : ℕ) (text' last : List ℕ) → a ≡ answerOf (depositReasons s text) → a .number ≡ 0
     → length text' ≡ length text → Puts 0 (depositText s) text end text' → last ≡ take end text' ++ replicate (length text' - end) 0
     → Deposits s text record { answer = a; length = end } last
-made-deposit s text a end text' last e t k P f =
+made-deposit s text a end text' last e h k P f =
     let at : end ≡ length (depositText s) = omega (arith, P .place) in
-    let left : length text' - end ≡ textLength - length (depositText s) = omega (arith, P .place) in
-    rw e
+    let left : length text' - end ≡ textLength - length (depositText s) = omega (arith, P .place, text-long s text a e h) in
     record {
-      answer = rw (eq-eqb (length text) textLength t);
-      long = at;
+      answer = e;
+      long = rw (eq-eqb (a .number) 0 h) at;
       prints =
           f
           ∙ ap (λ (l : List ℕ). l ++ replicate (length text' - end) 0) (P .text)
-          ∙ ap (λ (m : ℕ). depositText s ++ replicate m 0) left;
+          ∙ ap (λ (m : ℕ). depositText s ++ replicate m 0) left
+          ∙ rw (eq-eqb (a .number) 0 h);
     }

@@ -2,10 +2,13 @@
 //
 // The public call is `deposit`. It lends the sheet's numbers on from arrays of its own, which have room for 256 rows.
 ghost use mathlib.Core.Path.{_≡_};
-ghost use lib.ListN.{length};
+ghost use Prim.Native.Nat.{_≤_};
+ghost use lib.ListN.{length, take};
+ghost use Rattle.circuit.specs.Buffers.{selectorsLength, labelsLength, witnessLength};
 ghost use Rattle.archive.specs.Deposit.{depositText, Deposits};
-ghost use Rattle.archive.specs.Printed.{textLength};
+ghost use Rattle.archive.specs.Printed.{textLength, workText};
 ghost use Rattle.archive.specs.Puts.{Puts};
+ghost use Rattle.archive.specs.Work.{Workable};
 use field::Answer;
 
 mod blanks;
@@ -20,6 +23,40 @@ pub use blanks::text_room;
 pub struct Deposited {
     pub answer: Answer,
     pub length: usize,
+}
+
+// The text of a sheet's numbers, which stand at the start of buffers with room for more.
+fn print_read(
+    p: u32,
+    n: u32,
+    l: u32,
+    selectors: &[u32],
+    labels: &[u32],
+    witness: &[u32],
+    publics: &[u32],
+    challenges: &[u32],
+    text: &mut [u8],
+) -> usize
+    requires { ⌜ Workable p n (now challenges) (now text) ⌝ }
+    requires { ⌜ (selectorsLength n ≤ length (now selectors)) × (labelsLength n ≤ length (now labels)) × (witnessLength n ≤ length (now witness)) × (l ≤ length (now publics)) ⌝ }
+    ensures { λ r. ⌜ Puts 0 (workText p n l (take (selectorsLength n) (now (selectors .entry))) (take (labelsLength n) (now (labels .entry))) (take (witnessLength n) (now (witness .entry))) (take l (now (publics .entry))) (now (challenges .entry))) (now (text .entry)) r (now (text .exit)) ⌝ }
+{
+    let m = n as usize;
+    let first = circuit::selectors_length(m);
+    let second = circuit::labels_length(m);
+    let third = circuit::witness_length(m);
+    let fourth = l as usize;
+    work::print_work(
+        p,
+        n,
+        l,
+        &selectors[..first],
+        &labels[..second],
+        &witness[..third],
+        &publics[..fourth],
+        challenges,
+        text,
+    )
 }
 
 // The text of a sheet, at the buffer's start: why it cannot be read, or the text of its numbers.
@@ -44,20 +81,14 @@ fn print_sheet(sheet: &[u8], text: &mut [u8]) -> usize
     let number = answer.number;
     let detail = answer.detail;
     if number == 0 {
-        let l = found.l;
-        let m = found.n as usize;
-        let five = circuit::selectors_length(m);
-        let three = circuit::labels_length(m);
-        let values = circuit::witness_length(m);
-        let few = l as usize;
-        return work::print_work(
+        return print_read(
             found.p,
             found.n,
-            l,
-            &selectors[..five],
-            &labels[..three],
-            &witness[..values],
-            &publics[..few],
+            found.l,
+            &selectors,
+            &labels,
+            &witness,
+            &publics,
             &challenges,
             text,
         );

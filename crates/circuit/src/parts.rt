@@ -2,7 +2,7 @@
 ghost use mathlib.Core.Path.{_≡_};
 ghost use Prim.Native.Nat.{_-_, _≤_, _<_};
 ghost use lib.ListN.{length};
-ghost use Rattle.circuit.specs.Buffers.{preparedLength, wireLength, zLength, tStart, transcriptLength};
+ghost use Rattle.circuit.specs.Buffers.{preparedLength, wireLength, zLength, tStart, tPart, transcriptLength};
 ghost use Rattle.circuit.specs.Promises.{anyRows, preparedPlace, wirePlace, zPlace, numberedPart, Hands};
 use super::lengths;
 
@@ -50,6 +50,7 @@ pub fn z_part(n: usize, transcript: &[u32]) -> &[u32]
 pub fn t_part(n: usize, transcript: &[u32]) -> &[u32]
     requires { ⌜ (n ≤ 1024) × (tStart n ≤ length (now transcript)) ⌝ }
     ensures { λ r. ⌜ Hands (record { buffer = transcript .entry; start = tStart n; count = length (now (transcript .entry)) - tStart n }) r ⌝ }
+    ensures { λ r. ⌜ now r ≡ tPart n (now (transcript .entry)) ⌝ }
 {
     let at = lengths::t_start(n);
     &transcript[at..]

@@ -1,19 +1,34 @@
 -- `archive::deposit` meets its contract: the text, and the rest cleared. Assumes nothing.
+use mathlib.Core.Path.{_≡_}
 use native.Mathlib.Omega.{arith}
+use lib.ListN.{length}
 use borrow.Author.Needs.{needs}
+use Rattle.archive.specs.Printed.{textLength}
 use Rattle.archive.proofs.Rest.{rest-cleared}
-use Rattle.archive.specs.Sheets.{puts-fits, refused-deposit, made-deposit}
+use Rattle.archive.specs.Sheets.{puts-fits, refused-deposit, text-long, made-deposit}
 use Rattle.archive.proofs.deposit.Statement.{statement}
 use Rattle.archive.proofs.deposit.Tie as tie
 
-refused-requires : tie.Need-refused-requires
-refused-requires c κs = search needs
+abbrev start : tie.After-decide-lengths → tie.Start
+start c = c .before .before .before .before .before
+
+long : (c : tie.Else1) → length (start (c .before) .args .text .now) ≡ textLength
+long c = text-long (start (c .before) .args .sheet .now) (start (c .before) .args .text .now) _ (c .before .decide-lengths .ensures) (c .if1 .left)
+
+slice-aggregate-decide-lengths : tie.Need-slice-aggregate-decide-lengths
+slice-aggregate-decide-lengths c = search needs
+
+slice-aggregate-decide-lengths-2 : tie.Need-slice-aggregate-decide-lengths-2
+slice-aggregate-decide-lengths-2 c = search needs
+
+decide-lengths-requires : tie.Need-decide-lengths-requires
+decide-lengths-requires c κs = search needs
 
 returns : tie.Need-returns
-returns c = refused-deposit _ _ _ (c .refused .ensures) (c .before .if1 .taken)
+returns c = refused-deposit (start (c .before) .args .sheet .now) (start (c .before) .args .text .now) _ (c .before .decide-lengths .ensures) (c .if1 .taken)
 
 print-sheet-requires : tie.Need-print-sheet-requires
-print-sheet-requires c κs = search needs
+print-sheet-requires c κs = long (c .before)
 
 sub-clear : tie.Need-sub-clear
 sub-clear c = omega (arith, puts-fits _ _ (c .before .before .print-sheet .ensures))
@@ -27,29 +42,28 @@ part-clear-end c = search needs
 clear-requires : tie.Need-clear-requires
 clear-requires c κs = search needs
 
-accepted-requires : tie.Need-accepted-requires
-accepted-requires c κs = search needs
-
 same-length : tie.Need-same-length
 same-length c = search needs
 
 returns-2 : tie.Need-returns-2
 returns-2 c =
-    let t = c .before .before .before .before .before .before .before .print-sheet in
-    made-deposit (c .before .before .before .before .before .before .before .before .before .before .before .before .args .sheet .now) (c .before .before .before .before .before .before .before .before .before .before .before .before .args .text .now) _ (t .result) (t .last .1 .0) _ (c .accepted .ensures) (c .before .before .before .before .before .before .before .before .before .if1 .left) (t .kept .1 .0) (t .ensures)
-    (rest-cleared (t .result) (t .last .1 .0) (c .before .before .before .clear .last .0) (c .before .before .before .clear .ensures))
+    let d = c .before .before .before .before .before .before .before .before .before in
+    let t = c .before .before .before .before .before .before .print-sheet in
+    made-deposit (start d .args .sheet .now) (start d .args .text .now) _ (t .result) (t .last .1 .0) _ (d .decide-lengths .ensures) (c .before .before .before .before .before .before .before .before .if1 .left) (t .kept .1 .0) (t .ensures)
+    (rest-cleared (t .result) (t .last .1 .0) (c .before .before .clear .last .0) (c .before .before .clear .ensures))
 
 pub deposit-spec : {M : Type 1} → statement M
 deposit-spec =
     tie.close
     (tie.spec
-    refused-requires
+    slice-aggregate-decide-lengths
+    slice-aggregate-decide-lengths-2
+    decide-lengths-requires
     returns
     print-sheet-requires
     sub-clear
     part-clear-start
     part-clear-end
     clear-requires
-    accepted-requires
     same-length
     returns-2)

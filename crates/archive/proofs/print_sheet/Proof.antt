@@ -1,12 +1,12 @@
--- `archive::print_sheet` meets its contract: what is read is lent on, or the refusal is printed. Assumes nothing.
-use mathlib.Core.Path.{_≡_, sym, subst}
+-- `archive::print_sheet` meets its contract: what is read is printed, or the refusal is. Assumes nothing.
+use mathlib.Core.Path.{_≡_, subst}
 use mathlib.Core.Logic.{_≢_}
 use mathlib.Core.List.{List}
-use Prim.Native.Nat.{ℕ, _*_, _≤_}
+use Prim.Native.Nat.{ℕ, _≤_}
 use native.Mathlib.Omega.{arith}
-use lib.ListN.{length, take}
-use lib.Seq.{length-take-le}
+use lib.ListN.{take}
 use borrow.Author.Needs.{needs}
+use Rattle.circuit.specs.Buffers.{selectorsLength, labelsLength, witnessLength}
 use Rattle.archive.specs.Printed.{refusedText, workText}
 use Rattle.archive.specs.Puts.{Puts}
 use Rattle.archive.specs.Deposit.{depositText}
@@ -14,6 +14,9 @@ use Rattle.archive.specs.Work.{Workable}
 use Rattle.archive.specs.Sheets.{Arrays, rows-few, publics-few, sheet-workable, sheet-text, unread-text}
 use Rattle.archive.proofs.print_sheet.Statement.{statement}
 use Rattle.archive.proofs.print_sheet.Tie as tie
+
+abbrev start : tie.After-read → tie.Start
+start c = c .before .before .before .before .before .before .before .before .before .before .before .before .before
 
 -- the arrays have the lengths that are due
 arrays : (c : tie.After-read) → Arrays (c .before .before .before .before .before .before .before .before .before .before .blank-1280 .result) (c .before .before .before .before .before .before .before .before .before .blank-768 .result) (c .before .before .before .before .before .before .before .before .blank-7682 .result) (c .before .before .before .before .before .before .before .blank-256 .result) (c .before .before .before .before .before .before .blank-4 .result)
@@ -26,30 +29,21 @@ arrays c =
       challenges-long = c .before .before .before .before .before .before .blank-4 .ensures;
     }
 
--- the parts that are lent on
-selectors-fit : (c : tie.After-read) → c .read .result .answer .number ≡ 0 → 5 * c .read .result .n ≤ length (c .read .last .1 .0)
-selectors-fit c e = omega (arith, rows-few (c .before .before .before .before .before .before .before .before .before .before .before .before .before .args .sheet .now) (c .before .before .before .before .before .before .before .before .before .before .blank-1280 .result) (c .before .before .before .before .before .before .before .before .before .blank-768 .result) (c .before .before .before .before .before .before .before .before .blank-7682 .result) (c .before .before .before .before .before .before .before .blank-256 .result) (c .before .before .before .before .before .before .blank-4 .result) (c .read .result) (c .read .last .1 .0) (c .read .last .1 .1 .0) (c .read .last .1 .1 .1 .0) (c .read .last .1 .1 .1 .1 .0) (c .read .last .1 .1 .1 .1 .1 .0) (c .read .ensures) (arrays c) e, c .before .before .before .before .before .before .before .before .before .before .blank-1280 .ensures, c .read .kept .1 .0)
+workable : (c : tie.After-read) → c .read .result .answer .number ≡ 0 → Workable (c .read .result .p) (c .read .result .n) (c .read .last .1 .1 .1 .1 .1 .0) (start c .args .text .now)
+workable c e = sheet-workable (start c .args .sheet .now) (c .before .before .before .before .before .before .before .before .before .before .blank-1280 .result) (c .before .before .before .before .before .before .before .before .before .blank-768 .result) (c .before .before .before .before .before .before .before .before .blank-7682 .result) (c .before .before .before .before .before .before .before .blank-256 .result) (c .before .before .before .before .before .before .blank-4 .result) (c .read .result) (c .read .last .1 .0) (c .read .last .1 .1 .0) (c .read .last .1 .1 .1 .0) (c .read .last .1 .1 .1 .1 .0) (c .read .last .1 .1 .1 .1 .1 .0) (c .read .ensures) (arrays c) e (start c .args .text .now) (start c .pre)
 
-labels-fit : (c : tie.After-read) → c .read .result .answer .number ≡ 0 → 3 * c .read .result .n ≤ length (c .read .last .1 .1 .0)
-labels-fit c e = omega (arith, rows-few (c .before .before .before .before .before .before .before .before .before .before .before .before .before .args .sheet .now) (c .before .before .before .before .before .before .before .before .before .before .blank-1280 .result) (c .before .before .before .before .before .before .before .before .before .blank-768 .result) (c .before .before .before .before .before .before .before .before .blank-7682 .result) (c .before .before .before .before .before .before .before .blank-256 .result) (c .before .before .before .before .before .before .blank-4 .result) (c .read .result) (c .read .last .1 .0) (c .read .last .1 .1 .0) (c .read .last .1 .1 .1 .0) (c .read .last .1 .1 .1 .1 .0) (c .read .last .1 .1 .1 .1 .1 .0) (c .read .ensures) (arrays c) e, c .before .before .before .before .before .before .before .before .before .blank-768 .ensures, c .read .kept .1 .1 .0)
-
-witness-fit : (c : tie.After-read) → c .read .result .answer .number ≡ 0 → 3 * c .read .result .n ≤ length (c .read .last .1 .1 .1 .0)
-witness-fit c e = omega (arith, rows-few (c .before .before .before .before .before .before .before .before .before .before .before .before .before .args .sheet .now) (c .before .before .before .before .before .before .before .before .before .before .blank-1280 .result) (c .before .before .before .before .before .before .before .before .before .blank-768 .result) (c .before .before .before .before .before .before .before .before .blank-7682 .result) (c .before .before .before .before .before .before .before .blank-256 .result) (c .before .before .before .before .before .before .blank-4 .result) (c .read .result) (c .read .last .1 .0) (c .read .last .1 .1 .0) (c .read .last .1 .1 .1 .0) (c .read .last .1 .1 .1 .1 .0) (c .read .last .1 .1 .1 .1 .1 .0) (c .read .ensures) (arrays c) e, c .before .before .before .before .before .before .before .before .blank-7682 .ensures, c .read .kept .1 .1 .1 .0)
-
-publics-fit : (c : tie.After-read) → c .read .result .answer .number ≡ 0 → c .read .result .l ≤ length (c .read .last .1 .1 .1 .1 .0)
-publics-fit c e = omega (arith, publics-few (c .before .before .before .before .before .before .before .before .before .before .before .before .before .args .sheet .now) (c .before .before .before .before .before .before .before .before .before .before .blank-1280 .result) (c .before .before .before .before .before .before .before .before .before .blank-768 .result) (c .before .before .before .before .before .before .before .before .blank-7682 .result) (c .before .before .before .before .before .before .before .blank-256 .result) (c .before .before .before .before .before .before .blank-4 .result) (c .read .result) (c .read .last .1 .0) (c .read .last .1 .1 .0) (c .read .last .1 .1 .1 .0) (c .read .last .1 .1 .1 .1 .0) (c .read .last .1 .1 .1 .1 .1 .0) (c .read .ensures) (arrays c) e, c .before .before .before .before .before .before .before .blank-256 .ensures, c .read .kept .1 .1 .1 .1 .0)
-
-workable : (c : tie.After-read) → c .read .result .answer .number ≡ 0 → Workable (c .read .result .p) (c .read .result .n) (c .read .last .1 .1 .1 .1 .1 .0) (c .before .before .before .before .before .before .before .before .before .before .before .before .before .args .text .now)
-workable c e = sheet-workable (c .before .before .before .before .before .before .before .before .before .before .before .before .before .args .sheet .now) (c .before .before .before .before .before .before .before .before .before .before .blank-1280 .result) (c .before .before .before .before .before .before .before .before .before .blank-768 .result) (c .before .before .before .before .before .before .before .before .blank-7682 .result) (c .before .before .before .before .before .before .before .blank-256 .result) (c .before .before .before .before .before .before .blank-4 .result) (c .read .result) (c .read .last .1 .0) (c .read .last .1 .1 .0) (c .read .last .1 .1 .1 .0) (c .read .last .1 .1 .1 .1 .0) (c .read .last .1 .1 .1 .1 .1 .0) (c .read .ensures) (arrays c) e (c .before .before .before .before .before .before .before .before .before .before .before .before .before .args .text .now) (c .before .before .before .before .before .before .before .before .before .before .before .before .before .pre)
+-- n and l are small, so that the arrays have room
+few : (c : tie.After-read) → c .read .result .answer .number ≡ 0 → (c .read .result .n ≤ 256) × (c .read .result .l ≤ 256)
+few c e = (rows-few (start c .args .sheet .now) (c .before .before .before .before .before .before .before .before .before .before .blank-1280 .result) (c .before .before .before .before .before .before .before .before .before .blank-768 .result) (c .before .before .before .before .before .before .before .before .blank-7682 .result) (c .before .before .before .before .before .before .before .blank-256 .result) (c .before .before .before .before .before .before .blank-4 .result) (c .read .result) (c .read .last .1 .0) (c .read .last .1 .1 .0) (c .read .last .1 .1 .1 .0) (c .read .last .1 .1 .1 .1 .0) (c .read .last .1 .1 .1 .1 .1 .0) (c .read .ensures) (arrays c) e, publics-few (start c .args .sheet .now) (c .before .before .before .before .before .before .before .before .before .before .blank-1280 .result) (c .before .before .before .before .before .before .before .before .before .blank-768 .result) (c .before .before .before .before .before .before .before .before .blank-7682 .result) (c .before .before .before .before .before .before .before .blank-256 .result) (c .before .before .before .before .before .before .blank-4 .result) (c .read .result) (c .read .last .1 .0) (c .read .last .1 .1 .0) (c .read .last .1 .1 .1 .0) (c .read .last .1 .1 .1 .1 .0) (c .read .last .1 .1 .1 .1 .1 .0) (c .read .ensures) (arrays c) e)
 
 text-read : (c : tie.After-read) → c .read .result .answer .number ≡ 0
-    → workText (c .read .result .p) (c .read .result .n) (c .read .result .l) (take (5 * c .read .result .n) (c .read .last .1 .0)) (take (3 * c .read .result .n) (c .read .last .1 .1 .0)) (take (3 * c .read .result .n) (c .read .last .1 .1 .1 .0)) (take (c .read .result .l) (c .read .last .1 .1 .1 .1 .0)) (c .read .last .1 .1 .1 .1 .1 .0)
-    ≡ depositText (c .before .before .before .before .before .before .before .before .before .before .before .before .before .args .sheet .now)
-text-read c e = sheet-text (c .before .before .before .before .before .before .before .before .before .before .before .before .before .args .sheet .now) (c .before .before .before .before .before .before .before .before .before .before .blank-1280 .result) (c .before .before .before .before .before .before .before .before .before .blank-768 .result) (c .before .before .before .before .before .before .before .before .blank-7682 .result) (c .before .before .before .before .before .before .before .blank-256 .result) (c .before .before .before .before .before .before .blank-4 .result) (c .read .result) (c .read .last .1 .0) (c .read .last .1 .1 .0) (c .read .last .1 .1 .1 .0) (c .read .last .1 .1 .1 .1 .0) (c .read .last .1 .1 .1 .1 .1 .0) (c .read .ensures) (arrays c) e
+    → workText (c .read .result .p) (c .read .result .n) (c .read .result .l) (take (selectorsLength (c .read .result .n)) (c .read .last .1 .0)) (take (labelsLength (c .read .result .n)) (c .read .last .1 .1 .0)) (take (witnessLength (c .read .result .n)) (c .read .last .1 .1 .1 .0)) (take (c .read .result .l) (c .read .last .1 .1 .1 .1 .0)) (c .read .last .1 .1 .1 .1 .1 .0)
+    ≡ depositText (start c .args .sheet .now)
+text-read c e = sheet-text (start c .args .sheet .now) (c .before .before .before .before .before .before .before .before .before .before .blank-1280 .result) (c .before .before .before .before .before .before .before .before .before .blank-768 .result) (c .before .before .before .before .before .before .before .before .blank-7682 .result) (c .before .before .before .before .before .before .before .blank-256 .result) (c .before .before .before .before .before .before .blank-4 .result) (c .read .result) (c .read .last .1 .0) (c .read .last .1 .1 .0) (c .read .last .1 .1 .1 .0) (c .read .last .1 .1 .1 .1 .0) (c .read .last .1 .1 .1 .1 .1 .0) (c .read .ensures) (arrays c) e
 
 text-unread : (c : tie.After-read) → c .read .result .answer .number ≢ 0
-    → refusedText (c .read .result .answer .number) (c .read .result .answer .detail) ≡ depositText (c .before .before .before .before .before .before .before .before .before .before .before .before .before .args .sheet .now)
-text-unread c h = unread-text (c .before .before .before .before .before .before .before .before .before .before .before .before .before .args .sheet .now) (c .before .before .before .before .before .before .before .before .before .before .blank-1280 .result) (c .before .before .before .before .before .before .before .before .before .blank-768 .result) (c .before .before .before .before .before .before .before .before .blank-7682 .result) (c .before .before .before .before .before .before .before .blank-256 .result) (c .before .before .before .before .before .before .blank-4 .result) (c .read .result) (c .read .last .1 .0) (c .read .last .1 .1 .0) (c .read .last .1 .1 .1 .0) (c .read .last .1 .1 .1 .1 .0) (c .read .last .1 .1 .1 .1 .1 .0) (c .read .ensures) (arrays c) h
+    → refusedText (c .read .result .answer .number) (c .read .result .answer .detail) ≡ depositText (start c .args .sheet .now)
+text-unread c h = unread-text (start c .args .sheet .now) (c .before .before .before .before .before .before .before .before .before .before .blank-1280 .result) (c .before .before .before .before .before .before .before .before .before .blank-768 .result) (c .before .before .before .before .before .before .before .before .blank-7682 .result) (c .before .before .before .before .before .before .before .blank-256 .result) (c .before .before .before .before .before .before .blank-4 .result) (c .read .result) (c .read .last .1 .0) (c .read .last .1 .1 .0) (c .read .last .1 .1 .1 .0) (c .read .last .1 .1 .1 .1 .0) (c .read .last .1 .1 .1 .1 .1 .0) (c .read .ensures) (arrays c) h
 
 blank-1280-requires : tie.Need-blank-1280-requires
 blank-1280-requires c κs = search needs
@@ -84,56 +78,45 @@ slice-aggregate-read-5 c = search needs
 read-requires : tie.Need-read-requires
 read-requires c κs = search needs
 
-cast-m : tie.Need-cast-m
-cast-m c = search needs
+slice-aggregate-print-read : tie.Need-slice-aggregate-print-read
+slice-aggregate-print-read c = search needs
 
-mul-five : tie.Need-mul-five
-mul-five c = search needs
+slice-aggregate-print-read-2 : tie.Need-slice-aggregate-print-read-2
+slice-aggregate-print-read-2 c = search needs
 
-mul-three : tie.Need-mul-three
-mul-three c = search needs
+slice-aggregate-print-read-3 : tie.Need-slice-aggregate-print-read-3
+slice-aggregate-print-read-3 c = search needs
 
-cast-few : tie.Need-cast-few
-cast-few c = search needs
+slice-aggregate-print-read-4 : tie.Need-slice-aggregate-print-read-4
+slice-aggregate-print-read-4 c = search needs
 
-array-share-prefix-selectors : tie.Need-array-share-prefix-selectors
-array-share-prefix-selectors c = selectors-fit (c .before .before .before .before .before .before .before .before) (c .before .if1 .taken)
+slice-aggregate-print-read-5 : tie.Need-slice-aggregate-print-read-5
+slice-aggregate-print-read-5 c = search needs
 
-slice-aggregate-print-work : tie.Need-slice-aggregate-print-work
-slice-aggregate-print-work c = sym (length-take-le _ _ (selectors-fit (c .before .before .before .before .before .before .before .before .before) (c .before .before .if1 .taken)))
-
-array-share-prefix-labels : tie.Need-array-share-prefix-labels
-array-share-prefix-labels c = labels-fit (c .before .before .before .before .before .before .before .before .before) (c .before .before .if1 .taken)
-
-slice-aggregate-print-work-2 : tie.Need-slice-aggregate-print-work-2
-slice-aggregate-print-work-2 c = sym (length-take-le _ _ (labels-fit (c .before .before .before .before .before .before .before .before .before .before) (c .before .before .before .if1 .taken)))
-
-array-share-prefix-witness : tie.Need-array-share-prefix-witness
-array-share-prefix-witness c = witness-fit (c .before .before .before .before .before .before .before .before .before .before) (c .before .before .before .if1 .taken)
-
-slice-aggregate-print-work-3 : tie.Need-slice-aggregate-print-work-3
-slice-aggregate-print-work-3 c = sym (length-take-le _ _ (witness-fit (c .before .before .before .before .before .before .before .before .before .before .before) (c .before .before .before .before .if1 .taken)))
-
-array-share-prefix-publics : tie.Need-array-share-prefix-publics
-array-share-prefix-publics c = publics-fit (c .before .before .before .before .before .before .before .before .before .before .before) (c .before .before .before .before .if1 .taken)
-
-slice-aggregate-print-work-4 : tie.Need-slice-aggregate-print-work-4
-slice-aggregate-print-work-4 c = sym (length-take-le _ _ (publics-fit (c .before .before .before .before .before .before .before .before .before .before .before .before) (c .before .before .before .before .before .if1 .taken)))
-
-slice-aggregate-print-work-5 : tie.Need-slice-aggregate-print-work-5
-slice-aggregate-print-work-5 c = search needs
-
-print-work-requires : tie.Need-print-work-requires
-print-work-requires c κs = workable (c .before .before .before .before .before .before .before .before .before .before .before .before .before .before) (c .before .before .before .before .before .before .before .if1 .taken)
+print-read-requires : tie.Need-print-read-requires
+print-read-requires c κs =
+    let d = c .before .before .before .before .before .before .before .before .before .before .before .before .before in
+    let e = c .before .before .before .before .before .before .if1 .taken in
+    let small = few d e in
+    let A = arrays d in
+    let k = d .read .kept in (
+      workable d e,
+      (
+        omega (arith, small .0, A .selectors-long, k .1 .0),
+        omega (arith, small .0, A .labels-long, k .1 .1 .0),
+        omega (arith, small .0, A .witness-long, k .1 .1 .1 .0),
+        omega (arith, small .1, A .publics-long, k .1 .1 .1 .1 .0),
+      ),
+    )
 
 same-length : tie.Need-same-length
 same-length c = search needs
 
 returns : tie.Need-returns
 returns c =
-    let a = c .before .before .before .before .before .before .before .before .before .before .before .before .before .before .before .before .before .before .before .before .before .before .before .before .before .before .before .before .before .before .args in
-    let t = c .before .before .print-work in
-    subst (λ (b : List ℕ). Puts 0 b (a .text .now) (t .result) (t .last .1 .1 .1 .1 .1 .1 .1 .1 .0)) (text-read (c .before .before .before .before .before .before .before .before .before .before .before .before .before .before .before .before .before) (c .before .before .before .before .before .before .before .before .before .before .if1 .taken)) (t .ensures)
+    let d = c .before .before .before .before .before .before .before .before .before .before .before .before .before .before .before .before in
+    let t = c .before .before .print-read in
+    subst (λ (b : List ℕ). Puts 0 b (start d .args .text .now) (t .result) (t .last .1 .1 .1 .1 .1 .1 .1 .1 .0)) (text-read d (c .before .before .before .before .before .before .before .before .before .if1 .taken)) (t .ensures)
 
 put-refused-requires : tie.Need-put-refused-requires
 put-refused-requires c κs = search needs
@@ -143,9 +126,9 @@ same-length-2 c = search needs
 
 returns-2 : tie.Need-returns-2
 returns-2 c =
-    let a = c .before .before .before .before .before .before .before .before .before .before .before .before .before .before .before .before .before .before .before .before .before .before .before .before .args in
+    let d = c .before .before .before .before .before .before .before .before .before .before .before in
     let t = c .before .before .put-refused in
-    subst (λ (b : List ℕ). Puts 0 b (a .text .now) (t .result) (t .last .1 .1 .0)) (text-unread (c .before .before .before .before .before .before .before .before .before .before .before) (c .before .before .before .before .if1 .left)) (t .ensures)
+    subst (λ (b : List ℕ). Puts 0 b (start d .args .text .now) (t .result) (t .last .1 .1 .0)) (text-unread d (c .before .before .before .before .if1 .left)) (t .ensures)
 
 pub print-sheet-spec : {M : Type 1} → statement M
 print-sheet-spec =
@@ -162,20 +145,12 @@ print-sheet-spec =
     slice-aggregate-read-4
     slice-aggregate-read-5
     read-requires
-    cast-m
-    mul-five
-    mul-three
-    cast-few
-    array-share-prefix-selectors
-    slice-aggregate-print-work
-    array-share-prefix-labels
-    slice-aggregate-print-work-2
-    array-share-prefix-witness
-    slice-aggregate-print-work-3
-    array-share-prefix-publics
-    slice-aggregate-print-work-4
-    slice-aggregate-print-work-5
-    print-work-requires
+    slice-aggregate-print-read
+    slice-aggregate-print-read-2
+    slice-aggregate-print-read-3
+    slice-aggregate-print-read-4
+    slice-aggregate-print-read-5
+    print-read-requires
     same-length
     returns
     put-refused-requires

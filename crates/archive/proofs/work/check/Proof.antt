@@ -1,6 +1,6 @@
--- `archive::work::check` meets its contract: what is lent is not turned down. Assumes nothing.
-use mathlib.Core.Path.{sym}
-use Prim.Native.Nat.{_*_, _≤_}
+-- `archive::work::check` meets its contract: the scratch has the length that is due. Assumes nothing.
+use mathlib.Core.Path.{sym, _∙_}
+use Prim.Native.Nat.{_≤_}
 use native.Mathlib.Omega.{arith}
 use lib.ListN.{length}
 use lib.Seq.{length-take-le}
@@ -10,11 +10,11 @@ use Rattle.archive.proofs.work.check.Statement.{statement}
 use Rattle.archive.proofs.work.check.Tie as tie
 
 -- the scratch has room
-fits : (c : tie.After-blank-4096) → 16 * c .before .before .before .before .before .args .n ≤ length (c .blank-4096 .result)
-fits c = omega (arith, c .blank-4096 .ensures, c .before .before .before .before .before .pre .few)
+fits : (c : tie.After-blank-4096) → c .before .scratch-length .result ≤ length (c .blank-4096 .result)
+fits c = omega (arith, c .blank-4096 .ensures, c .before .scratch-length .ensures, c .before .before .before .before .before .before .pre .few)
 
-mul-end : tie.Need-mul-end
-mul-end c = search needs
+scratch-length-requires : tie.Need-scratch-length-requires
+scratch-length-requires c κs = search needs
 
 blank-4096-requires : tie.Need-blank-4096-requires
 blank-4096-requires c κs = search needs
@@ -29,13 +29,13 @@ check-point-requires : tie.Need-check-point-requires
 check-point-requires c κs = search needs
 
 returns : tie.Need-returns
-returns c = judged-of _ _ _ (c .before .before .before .before .before .before .before .before .pre) (length-take-le _ _ (fits (c .before .before .before))) (c .before .check-point .ensures)
+returns c = judged-of _ _ _ (c .before .before .before .before .before .before .before .before .before .pre) (length-take-le _ _ (fits (c .before .before .before)) ∙ c .before .before .before .before .scratch-length .ensures) (c .before .check-point .ensures)
 
 pub check-spec : {M : Type 1} → statement M
 check-spec =
     tie.close
     (tie.spec
-    mul-end
+    scratch-length-requires
     blank-4096-requires
     array-borrow-prefix-scratch
     slice-aggregate-check-point

@@ -1,11 +1,12 @@
 -- `archive::work::judge` meets its contract: the circuit is prepared in an array, and judged with it. Assumes nothing.
 use mathlib.Core.Path.{_≡_, sym, subst, ap, _∙_}
 use mathlib.Core.List.{List, _++_}
-use Prim.Native.Nat.{ℕ, _*_, _≤_}
+use Prim.Native.Nat.{ℕ, _≤_}
 use native.Mathlib.Omega.{arith}
 use lib.ListN.{length, take, drop}
-use lib.Seq.{take-at, length-take-le, length-front}
+use lib.Seq.{length-take-le}
 use borrow.Author.Needs.{needs}
+use Rattle.algebra.specs.Ends.{front-fits, front-is}
 use Rattle.circuit.specs.Circuit.{lentCircuit}
 use Rattle.protocol.specs.Protocol.{prepared}
 use Rattle.pointcheck.specs.Promises.{judgedAt}
@@ -13,24 +14,27 @@ use Rattle.archive.specs.Work.{Judgeable, judgeable-of}
 use Rattle.archive.proofs.work.judge.Statement.{statement}
 use Rattle.archive.proofs.work.judge.Tie as tie
 
--- the array has room, and still has when it is written
-fits : (c : tie.After-blank-2048) → 8 * c .before .before .before .before .before .before .args .n ≤ length (c .blank-2048 .result)
-fits c = omega (arith, c .blank-2048 .ensures, c .before .before .before .before .before .before .pre .few)
+abbrev start : tie.After-prepared-length → tie.Start
+start c = c .before .before .before .before .before .before
 
-still-fits : (c : tie.After-prepare) → 8 * c .before .before .before .before .before .before .before .before .args .n ≤ length (c .prepare .last .1 .1 .1 .1 .0 ++ drop (8 * c .before .before .before .before .before .before .before .before .args .n) (c .before .before .blank-2048 .result))
-still-fits c =
-    omega (arith, length-front (c .before .before .blank-2048 .result) (c .prepare .last .1 .1 .1 .1 .0) (8 * c .before .before .before .before .before .before .before .before .args .n) (c .prepare .kept .1 .1 .1 .1 .0), fits (c .before .before))
+-- the array has room, and still has when it is written
+fits : (c : tie.After-blank-2048) → c .before .prepared-length .result ≤ length (c .blank-2048 .result)
+fits c = omega (arith, c .blank-2048 .ensures, c .before .prepared-length .ensures, start (c .before) .pre .few)
+
+abbrev after : tie.After-prepare → List ℕ
+after c = c .prepare .last .1 .1 .1 .1 .0 ++ drop (c .before .before .before .prepared-length .result) (c .before .before .blank-2048 .result)
+
+still-fits : (c : tie.After-prepare) → c .before .before .before .prepared-length .result ≤ length (after c)
+still-fits c = front-fits (c .before .before .before .prepared-length .result) (c .before .before .blank-2048 .result) (c .prepare .last .1 .1 .1 .1 .0) (fits (c .before .before)) (c .prepare .kept .1 .1 .1 .1 .0)
 
 -- what is written is the prepared circuit
 written : (c : tie.After-prepare)
-    → take (8 * c .before .before .before .before .before .before .before .before .args .n) (c .prepare .last .1 .1 .1 .1 .0 ++ drop (8 * c .before .before .before .before .before .before .before .before .args .n) (c .before .before .blank-2048 .result))
-    ≡ prepared (c .before .before .before .before .before .before .before .before .args .p) (c .before .before .before .before .before .before .before .before .args .n) (lentCircuit (c .before .before .before .before .before .before .before .before .args .n) (c .before .before .before .before .before .before .before .before .args .selectors .now) (c .before .before .before .before .before .before .before .before .args .labels .now))
-written c =
-    take-at (c .prepare .last .1 .1 .1 .1 .0) _ (8 * c .before .before .before .before .before .before .before .before .args .n) (c .prepare .kept .1 .1 .1 .1 .0 ∙ length-take-le _ _ (fits (c .before .before)))
-    ∙ c .prepare .ensures
+    → take (c .before .before .before .prepared-length .result) (after c)
+    ≡ prepared (start (c .before .before .before) .args .p) (start (c .before .before .before) .args .n) (lentCircuit (start (c .before .before .before) .args .n) (start (c .before .before .before) .args .selectors .now) (start (c .before .before .before) .args .labels .now))
+written c = front-is (c .before .before .before .prepared-length .result) (c .before .before .blank-2048 .result) (c .prepare .last .1 .1 .1 .1 .0) (fits (c .before .before)) (c .prepare .kept .1 .1 .1 .1 .0) ∙ c .prepare .ensures
 
-mul-end : tie.Need-mul-end
-mul-end c = search needs
+prepared-length-requires : tie.Need-prepared-length-requires
+prepared-length-requires c κs = search needs
 
 blank-2048-requires : tie.Need-blank-2048-requires
 blank-2048-requires c κs = search needs
@@ -42,7 +46,9 @@ slice-aggregate-prepare : tie.Need-slice-aggregate-prepare
 slice-aggregate-prepare c = sym (length-take-le _ _ (fits (c .before)))
 
 prepare-requires : tie.Need-prepare-requires
-prepare-requires c κs = (c .before .before .before .before .before .before .before .pre .few, c .before .before .before .before .before .before .before .pre .admissible, c .before .before .before .before .before .before .before .pre .circuit-right, length-take-le _ _ (fits (c .before)))
+prepare-requires c κs =
+    let s = start (c .before .before) in
+    (s .pre .few, s .pre .admissible, s .pre .circuit-right, length-take-le _ _ (fits (c .before)) ∙ c .before .before .prepared-length .ensures)
 
 array-share-prefix-prepared : tie.Need-array-share-prefix-prepared
 array-share-prefix-prepared c = still-fits (c .before)
@@ -52,20 +58,20 @@ slice-aggregate-check c = sym (length-take-le _ _ (still-fits (c .before .before
 
 check-requires : tie.Need-check-requires
 check-requires c κs =
-    let s = c .before .before .before .before .before .before .before .before .before .before in
+    let s = start (c .before .before .before .before .before) in
     let a = s .args in
     subst (λ (w : List ℕ). Judgeable (a .p) (a .n) (a .l) (a .publics .now) w (a .transcript .now) (a .challenges .now)) (sym (written (c .before .before))) (judgeable-of (s .pre))
 
 returns : tie.Need-returns
 returns c =
-    let a = c .before .before .before .before .before .before .before .before .before .before .before .args in
+    let a = start (c .before .before .before .before .before .before) .args in
     c .check .ensures ∙ ap (λ (w : List ℕ). judgedAt (a .p) (a .n) (a .publics .now) w (a .transcript .now) (a .challenges .now)) (written (c .before .before .before))
 
 pub judge-spec : {M : Type 1} → statement M
 judge-spec =
     tie.close
     (tie.spec
-    mul-end
+    prepared-length-requires
     blank-2048-requires
     array-borrow-prefix-prepared
     slice-aggregate-prepare

@@ -1,6 +1,6 @@
 -- `archive::work::lay` meets its contract: the scratch has the length that is due. Assumes nothing.
-use mathlib.Core.Path.{sym}
-use Prim.Native.Nat.{_*_, _≤_}
+use mathlib.Core.Path.{sym, _∙_}
+use Prim.Native.Nat.{_≤_}
 use native.Mathlib.Omega.{arith}
 use lib.ListN.{length}
 use lib.Seq.{length-take-le}
@@ -10,17 +10,17 @@ use Rattle.archive.proofs.work.lay.Statement.{statement}
 use Rattle.archive.proofs.work.lay.Tie as tie
 
 -- the scratch has room
-fits : (c : tie.After-blank-4096) → 16 * c .before .before .before .before .before .before .before .args .n ≤ length (c .blank-4096 .result)
-fits c = omega (arith, c .blank-4096 .ensures, c .before .before .before .before .before .before .before .pre .0)
+fits : (c : tie.After-blank-4096) → c .before .scratch-length .result ≤ length (c .blank-4096 .result)
+fits c = omega (arith, c .blank-4096 .ensures, c .before .scratch-length .ensures, c .before .before .before .before .before .before .before .before .pre .0)
 
-mul-end : tie.Need-mul-end
-mul-end c = search needs
+scratch-length-requires : tie.Need-scratch-length-requires
+scratch-length-requires c κs = search needs
 
 blank-4096-requires : tie.Need-blank-4096-requires
 blank-4096-requires c κs = search needs
 
 slice-aggregate-prove : tie.Need-slice-aggregate-prove
-slice-aggregate-prove c = sym (length-take-le 3 (c .before .before .before .before .before .before .before .before .before .args .challenges .now) (c .before .before .before .before .before .before .before .before .before .pre .1))
+slice-aggregate-prove c = sym (length-take-le 3 (c .before .before .before .before .before .before .before .before .before .before .args .challenges .now) (c .before .before .before .before .before .before .before .before .before .before .pre .1))
 
 array-borrow-prefix-scratch : tie.Need-array-borrow-prefix-scratch
 array-borrow-prefix-scratch c = search needs
@@ -36,18 +36,18 @@ same-length c = search needs
 
 returns : tie.Need-returns
 returns c =
-    let s = c .before .before .before .before .before .before .before .before .before .before .before .before .before .before in
+    let s = c .before .before .before .before .before .before .before .before .before .before .before .before .before .before .before in
     let a = s .args in
     lays-of (a .p) (a .n) (a .l) (a .selectors .now) (a .labels .now) (a .witness .now) (a .publics .now) (a .challenges .now) _ _ _ _ _
     (s .pre .2)
-    (length-take-le _ _ (fits (c .before .before .before .before .before .before .before)))
+    (length-take-le _ _ (fits (c .before .before .before .before .before .before .before)) ∙ c .before .before .before .before .before .before .before .before .scratch-length .ensures)
     (c .before .before .before .prove .ensures)
 
 pub lay-spec : {M : Type 1} → statement M
 lay-spec =
     tie.close
     (tie.spec
-    mul-end
+    scratch-length-requires
     blank-4096-requires
     slice-aggregate-prove
     array-borrow-prefix-scratch

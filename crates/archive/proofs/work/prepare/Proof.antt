@@ -1,6 +1,6 @@
--- `archive::work::prepare` meets its contract: what is lent is not turned down. Assumes nothing.
-use mathlib.Core.Path.{sym}
-use Prim.Native.Nat.{_*_, _≤_}
+-- `archive::work::prepare` meets its contract: the scratch has the length that is due. Assumes nothing.
+use mathlib.Core.Path.{sym, _∙_}
+use Prim.Native.Nat.{_≤_}
 use native.Mathlib.Omega.{arith}
 use lib.ListN.{length}
 use lib.Seq.{length-take-le}
@@ -10,11 +10,11 @@ use Rattle.archive.proofs.work.prepare.Statement.{statement}
 use Rattle.archive.proofs.work.prepare.Tie as tie
 
 -- the scratch has room
-fits : (c : tie.After-blank-4096) → 16 * c .before .before .before .before .args .n ≤ length (c .blank-4096 .result)
-fits c = omega (arith, c .blank-4096 .ensures, c .before .before .before .before .pre .0)
+fits : (c : tie.After-blank-4096) → c .before .scratch-length .result ≤ length (c .blank-4096 .result)
+fits c = omega (arith, c .blank-4096 .ensures, c .before .scratch-length .ensures, c .before .before .before .before .before .pre .0)
 
-mul-end : tie.Need-mul-end
-mul-end c = search needs
+scratch-length-requires : tie.Need-scratch-length-requires
+scratch-length-requires c κs = search needs
 
 blank-4096-requires : tie.Need-blank-4096-requires
 blank-4096-requires c κs = search needs
@@ -33,14 +33,15 @@ same-length c = search needs
 
 returns : tie.Need-returns
 returns c =
-    let s = c .before .before .before .before .before .before .before .before .before .before in
-    prepared-of (s .args .selectors .now) (s .args .labels .now) _ _ _ _ _ (s .pre .1) (s .pre .2) (s .pre .3) (length-take-le _ _ (fits (c .before .before .before .before .before .before))) (c .before .before .before .prepare .ensures)
+    let s = c .before .before .before .before .before .before .before .before .before .before .before in
+    prepared-of (s .args .selectors .now) (s .args .labels .now) _ _ _ _ _ (s .pre .1) (s .pre .2) (s .pre .3) (length-take-le _ _ (fits (c .before .before .before .before .before .before)) ∙ c .before .before .before .before .before .before .before .scratch-length .ensures)
+    (c .before .before .before .prepare .ensures)
 
 pub prepare-spec : {M : Type 1} → statement M
 prepare-spec =
     tie.close
     (tie.spec
-    mul-end
+    scratch-length-requires
     blank-4096-requires
     array-borrow-prefix-scratch
     slice-aggregate-prepare

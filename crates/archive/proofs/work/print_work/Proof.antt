@@ -1,11 +1,12 @@
 -- `archive::work::print_work` meets its contract: what the prover laid is printed and judged, or its refusal is printed. Assumes nothing.
 use mathlib.Core.Path.{_≡_, sym, ap, subst, _∙_}
 use mathlib.Core.List.{List, _++_}
-use Prim.Native.Nat.{ℕ, _*_, _-_, _≤_}
+use Prim.Native.Nat.{ℕ, _≤_}
 use native.Mathlib.Omega.{arith}
 use lib.ListN.{length, take, drop}
-use lib.Seq.{take-at, length-take-le, length-front}
+use lib.Seq.{length-take-le}
 use borrow.Author.Needs.{needs}
+use Rattle.algebra.specs.Ends.{front-fits, front-is}
 use Rattle.prover.specs.Promises.{provedFrom}
 use Rattle.archive.specs.Printed.{workAnswer}
 use Rattle.archive.specs.Puts.{Puts}
@@ -13,38 +14,41 @@ use Rattle.archive.specs.Work.{Checkable, checkedText, laid-of, checkabl
 use Rattle.archive.proofs.work.print_work.Statement.{statement}
 use Rattle.archive.proofs.work.print_work.Tie as tie
 
+abbrev start : tie.After-transcript-length → tie.Start
+start c = c .before .before .before .before .before .before .before
+
+-- the call behind what `lay` left
+abbrev call : tie.After-lay → tie.Start
+call c = start (c .before .before .before)
+
 -- the array has room, and still has when it is written
-fits : (c : tie.After-blank-2048) → 7 * c .before .before .before .before .before .before .before .args .n - 3 ≤ length (c .blank-2048 .result)
-fits c = omega (arith, c .blank-2048 .ensures, c .before .before .before .before .before .before .before .pre .few)
+fits : (c : tie.After-blank-2048) → c .before .transcript-length .result ≤ length (c .blank-2048 .result)
+fits c = omega (arith, c .blank-2048 .ensures, c .before .transcript-length .ensures, start (c .before) .pre .few)
 
 -- the array after the prover, and the part of it that is lent on
 abbrev after : tie.After-lay → List ℕ
-after c = c .lay .last .1 .1 .1 .1 .1 .1 .1 .0 ++ drop (7 * c .before .before .before .before .before .before .before .before .before .args .n - 3) (c .before .before .blank-2048 .result)
+after c = c .lay .last .1 .1 .1 .1 .1 .1 .1 .0 ++ drop (c .before .before .before .transcript-length .result) (c .before .before .blank-2048 .result)
 
-still-fits : (c : tie.After-lay) → 7 * c .before .before .before .before .before .before .before .before .before .args .n - 3 ≤ length (after c)
-still-fits c =
-    omega (arith, length-front (c .before .before .blank-2048 .result) (c .lay .last .1 .1 .1 .1 .1 .1 .1 .0) (7 * c .before .before .before .before .before .before .before .before .before .args .n - 3) (c .lay .kept .1 .1 .1 .1 .1 .1 .1 .0), fits (c .before .before))
+still-fits : (c : tie.After-lay) → c .before .before .before .transcript-length .result ≤ length (after c)
+still-fits c = front-fits (c .before .before .before .transcript-length .result) (c .before .before .blank-2048 .result) (c .lay .last .1 .1 .1 .1 .1 .1 .1 .0) (fits (c .before .before)) (c .lay .kept .1 .1 .1 .1 .1 .1 .1 .0)
 
 abbrev laid : tie.After-lay → List ℕ
 laid c =
-    let a = c .before .before .before .before .before .before .before .before .before .args in
+    let a = call c .args in
     provedFrom (a .p) (a .n) (a .selectors .now) (a .labels .now) (a .witness .now) (a .publics .now) (take 3 (a .challenges .now))
 
-part-laid : (c : tie.After-lay) → c .lay .result .number ≡ 0 → take (7 * c .before .before .before .before .before .before .before .before .before .args .n - 3) (after c) ≡ laid c
+part-laid : (c : tie.After-lay) → c .lay .result .number ≡ 0 → take (c .before .before .before .transcript-length .result) (after c) ≡ laid c
 part-laid c e =
-    let a = c .before .before .before .before .before .before .before .before .before .args in
-    take-at (c .lay .last .1 .1 .1 .1 .1 .1 .1 .0) _ (7 * a .n - 3) (c .lay .kept .1 .1 .1 .1 .1 .1 .1 .0 ∙ length-take-le _ _ (fits (c .before .before)))
+    let a = call c .args in
+    front-is (c .before .before .before .transcript-length .result) (c .before .before .blank-2048 .result) (c .lay .last .1 .1 .1 .1 .1 .1 .1 .0) (fits (c .before .before)) (c .lay .kept .1 .1 .1 .1 .1 .1 .1 .0)
     ∙ laid-of (a .p) (a .n) (a .l) (a .selectors .now) (a .labels .now) (a .witness .now) (a .publics .now) (a .challenges .now) _ _ _ (c .lay .ensures) e
 
 taken : (c : tie.After-lay) → c .lay .result .number ≡ 0
-    → workAnswer (c .before .before .before .before .before .before .before .before .before .args .p) (c .before .before .before .before .before .before .before .before .before .args .n) (c .before .before .before .before .before .before .before .before .before .args .l) (c .before .before .before .before .before .before .before .before .before .args .selectors .now) (c .before .before .before .before .before .before .before .before .before .args .labels .now) (c .before .before .before .before .before .before .before .before .before .args .witness .now) (c .before .before .before .before .before .before .before .before .before .args .publics .now) (c .before .before .before .before .before .before .before .before .before .args .challenges .now) .number ≡ 0
+    → workAnswer (call c .args .p) (call c .args .n) (call c .args .l) (call c .args .selectors .now) (call c .args .labels .now) (call c .args .witness .now) (call c .args .publics .now) (call c .args .challenges .now) .number ≡ 0
 taken c e = ap (λ r. r .number) (sym (c .lay .ensures .answer)) ∙ e
 
-mul-end : tie.Need-mul-end
-mul-end c = search needs
-
-sub-end : tie.Need-sub-end
-sub-end c = search needs
+transcript-length-requires : tie.Need-transcript-length-requires
+transcript-length-requires c κs = search needs
 
 blank-2048-requires : tie.Need-blank-2048-requires
 blank-2048-requires c κs = search needs
@@ -56,7 +60,9 @@ slice-aggregate-lay : tie.Need-slice-aggregate-lay
 slice-aggregate-lay c = sym (length-take-le _ _ (fits (c .before)))
 
 lay-requires : tie.Need-lay-requires
-lay-requires c κs = (c .before .before .before .before .before .before .before .before .pre .few, omega (arith, c .before .before .before .before .before .before .before .before .pre .challenges-right .long), length-take-le _ _ (fits (c .before)))
+lay-requires c κs =
+    let s = start (c .before .before) in
+    (s .pre .few, omega (arith, s .pre .challenges-right .long), length-take-le _ _ (fits (c .before)) ∙ c .before .before .transcript-length .ensures)
 
 array-share-prefix-transcript : tie.Need-array-share-prefix-transcript
 array-share-prefix-transcript c = still-fits (c .before .before)
@@ -66,7 +72,7 @@ slice-aggregate-print-checked c = sym (length-take-le _ _ (still-fits (c .before
 
 print-checked-requires : tie.Need-print-checked-requires
 print-checked-requires c κs =
-    let s = c .before .before .before .before .before .before .before .before .before .before .before .before .before in
+    let s = call (c .before .before .before .before) in
     let a = s .args in (
       subst (λ (t : List ℕ). Checkable (a .p) (a .n) (a .l) (a .selectors .now) (a .labels .now) (a .publics .now) t (a .challenges .now)) (sym (part-laid (c .before .before .before .before) (c .before .before .if1 .taken)))
           (checkable-of (a .p) (a .n) (a .l) (a .selectors .now) (a .labels .now) (a .witness .now) (a .publics .now) (a .challenges .now) (a .text .now) (s .pre) (taken (c .before .before .before .before) (c .before .before .if1 .taken))),
@@ -78,12 +84,13 @@ same-length c = search needs
 
 returns : tie.Need-returns
 returns c =
-    let a = c .before .before .before .before .before .before .before .before .before .before .before .before .before .before .before .before .args in
+    let d = c .before .before .before .before .before .before .before in
+    let a = call d .args in
     let e = c .before .before .before .before .before .if1 .taken in
     let t = c .before .before .print-checked in
     subst (λ (b : List ℕ). Puts 0 b (a .text .now) (t .result) (t .last .1 .1 .1 .1 .1 .1 .1 .1 .0))
-    (ap (λ (u : List ℕ). checkedText (a .p) (a .n) (a .selectors .now) (a .labels .now) (a .publics .now) u (a .challenges .now)) (part-laid (c .before .before .before .before .before .before .before) e)
-    ∙ proved-text (a .p) (a .n) (a .l) (a .selectors .now) (a .labels .now) (a .witness .now) (a .publics .now) (a .challenges .now) (taken (c .before .before .before .before .before .before .before) e))
+    (ap (λ (u : List ℕ). checkedText (a .p) (a .n) (a .selectors .now) (a .labels .now) (a .publics .now) u (a .challenges .now)) (part-laid d e)
+    ∙ proved-text (a .p) (a .n) (a .l) (a .selectors .now) (a .labels .now) (a .witness .now) (a .publics .now) (a .challenges .now) (taken d e))
     (t .ensures)
 
 put-refused-requires : tie.Need-put-refused-requires
@@ -94,7 +101,7 @@ same-length-2 c = search needs
 
 returns-2 : tie.Need-returns-2
 returns-2 c =
-    let a = c .before .before .before .before .before .before .before .before .before .before .before .before .before .before .before .args in
+    let a = call (c .before .before .before .before .before .before) .args in
     let t = c .before .before .put-refused in
     subst (λ (b : List ℕ). Puts 0 b (a .text .now) (t .result) (t .last .1 .1 .0))
     (refused-text (a .p) (a .n) (a .l) (a .selectors .now) (a .labels .now) (a .witness .now) (a .publics .now) (a .challenges .now) _ (c .before .before .before .before .before .before .lay .ensures .answer) (c .before .before .before .before .if1 .left))
@@ -104,8 +111,7 @@ pub print-work-spec : {M : Type 1} → statement M
 print-work-spec =
     tie.close
     (tie.spec
-    mul-end
-    sub-end
+    transcript-length-requires
     blank-2048-requires
     array-borrow-prefix-transcript
     slice-aggregate-lay

@@ -38,7 +38,7 @@ returns-2 c =
     let a = c .before .before .before .before .args in
     let k : a .number ≡ 12 = c .before .match .keys2 in
     let long : length (a .transcript .now) - tStart (a .n) ≡ quotientLength (a .n) = omega arith in
-    rw (k, ← long) (c .t-part .ensures)
+    rw (k, ← long) (c .t-part .ensures .0)
 
 returns-3 : tie.Need-returns-3
 returns-3 c = rw (le-leb (c .before .before .before .before .before .args .number) 7 (omega arith)) (c .prepared-part .ensures .0)
