@@ -12,7 +12,7 @@ use Rattle.algebra.specs.Modular.{powF, first, inverse}
 use Rattle.algebra.specs.Polynomial.{addP, mulP, dilate, reduced, remainderVanishing}
 use Rattle.field.specs.Fields.{generator, root, point, multiplier, tag}
 use Rattle.transform.specs.Transform.{interpolation}
-use Rattle.circuit.specs.Circuit.{permutation}
+use Rattle.circuit.specs.Circuit.{lentWitness, permutation}
 use Rattle.protocol.specs.Protocol.{wiredTag, rowN, rowD, rowZ, polyN, polyD, polyL, gatePart, stepPart, startPart, polyF, preparedPoly, prepared, wiresOf, zOf}
 use Rattle.protocol.specs.Worked.{circuit, publics, witness, Case, number, numbers, _&_}
 
@@ -66,5 +66,5 @@ table =
     ∷ []
 
 pub by-hand : All (λ r. r .is ≡ r .should) table
-unfolding tab powF first inverse reduced remainderVanishing generator root point multiplier tag interpolation permutation rowN rowD rowZ polyN polyD polyL gatePart stepPart startPart polyF prepared
+unfolding tab powF first inverse reduced remainderVanishing generator root point multiplier tag interpolation lentWitness permutation rowN rowD rowZ polyN polyD polyL gatePart stepPart startPart polyF prepared
 by-hand = refl & refl & refl & refl & refl & refl & refl & refl & refl & refl & refl & refl & refl & refl & refl & refl & refl & refl & refl & refl & refl & refl & refl & tt
