@@ -77,9 +77,9 @@ extern "C" {
 #define GUPPYSPOON_PREPARE_STACK 32768
 #define GUPPYSPOON_CHECK_ROWS_STACK 81920
 #define GUPPYSPOON_CHECK_POINT_STACK 24576
-#define GUPPYSPOON_PROVE_STACK 147456
+#define GUPPYSPOON_PROVE_STACK 131072
 #define GUPPYSPOON_READ_STACK 32768
-#define GUPPYSPOON_DEPOSIT_STACK 196608
+#define GUPPYSPOON_DEPOSIT_STACK 180224
 
 /* Word 0 of an answer: accepted, or the first reason in this order that applies. Word 1 is the detail, 0 unless named here. */
 enum guppyspoon_reason {

@@ -17,7 +17,7 @@
 -- Assumes nothing.
 use mathlib.Core.Bool.{cond}
 use mathlib.Core.List.{List, [], _∷_, _++_}
-use Prim.Native.Nat.{ℕ, _*_}
+use Prim.Native.Nat.{ℕ}
 use lib.ListN.{getD, take, replicate}
 use Rattle.field.specs.declared.Answer.{Answer}
 use Rattle.field.specs.Reasons.{answerOf, isAccepted}

@@ -11,7 +11,7 @@ use mathlib.Core.Path.{_≡_}
 use mathlib.Core.List.{List}
 use Prim.Native.Nat.{ℕ, _+_, _*_, _-_, _≤_, _<_}
 use native.Mathlib.Omega.{arith}
-use lib.ListN.{length, take, drop, length-take, length-drop}
+use lib.ListN.{length, drop, length-take, length-drop}
 use lib.Seq.{length-take-le}
 use Rattle.algebra.specs.Ends.{run-room}
 use Rattle.circuit.specs.Buffers.{preparedLength, transcriptLength, wireLength, zLength, preparedStart, wireStart, zStart, tStart, preparedPart, wirePart, zPart}

@@ -10,7 +10,8 @@ use mathlib.Core.List.{List}
 use Prim.Native.Nat.{ℕ, _*_, _<_}
 use native.Mathlib.Omega.{arith}
 use Rattle.algebra.specs.Polynomial.{Elements}
-use Rattle.algebra.specs.Tables.{length-tab, getD-tab, all-tab, all-getD}
+use Rattle.algebra.specs.PolynomialLaws.{tab-elements}
+use Rattle.algebra.specs.Tables.{getD-tab, all-getD}
 use Rattle.circuit.specs.Buffers.{witnessLength}
 use Rattle.circuit.specs.Circuit.{lentWitness, laidWitness}
 
@@ -20,7 +21,7 @@ lent-laid n v k h = getD-tab v (3 * n) k h
 
 pub laid-elements : {p : ℕ} (n : ℕ) (v : ℕ → ℕ) → ((k : ℕ) → k < 3 * n → v k < p) → Elements p (witnessLength n) (laidWitness n v)
 unfolding laidWitness
-laid-elements {p} n v h = record { long = length-tab v (3 * n); below = all-tab (λ (x : ℕ). x < p) v (3 * n) h }
+laid-elements n v h = tab-elements v (3 * n) h
 
 pub lent-below : {p : ℕ} (n : ℕ) {witness : List ℕ} → Elements p (witnessLength n) witness → (k : ℕ) → k < 3 * n → lentWitness n witness k < p
 unfolding lentWitness

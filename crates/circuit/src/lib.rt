@@ -19,7 +19,6 @@ mod witness;
 pub use copies::fill_permutation;
 pub use lengths::labels_length;
 pub use lengths::prepared_length;
-pub use lengths::quotient_length;
 pub use lengths::selectors_length;
 pub use lengths::t_start;
 pub use lengths::transcript_length;
@@ -31,7 +30,6 @@ pub use parts::wire_part;
 pub use parts::z_part;
 pub use publics::public_of;
 pub use publics::public_polynomial;
-pub use reasons::decide_labels;
 pub use reasons::decide_numbers;
 pub use tags::factor_of;
 pub use tags::multiplier_of;
@@ -51,7 +49,7 @@ fn decide(p: u32, n: u32, labels: &[u32], positions: &[u32]) -> Answer
     if number != 0 {
         return answer;
     }
-    decide_labels(n, labels)
+    reasons::decide_labels(n, labels)
 }
 
 // The position that the copy permutation leads to from each of the 3n positions.
@@ -75,10 +73,10 @@ pub fn polynomial<'a>(n: u32, number: u32, prepared: &'a [u32], transcript: &'a 
         return &transcript[..0];
     }
     let m = n as usize;
-    if prepared.len() != prepared_length(m) {
+    if prepared.len() != lengths::prepared_length(m) {
         return &transcript[..0];
     }
-    if transcript.len() != transcript_length(m) {
+    if transcript.len() != lengths::transcript_length(m) {
         return &transcript[..0];
     }
     parts::part(m, number, prepared, transcript)

@@ -13,8 +13,8 @@ use lib.Seq.{getD-append-add}
 use Rattle.algebra.specs.Ends.{run-room}
 use Rattle.algebra.specs.Lists.{tab}
 use Rattle.algebra.specs.Polynomial.{Elements}
-use Rattle.algebra.specs.PolynomialLaws.{append-elements}
-use Rattle.algebra.specs.Tables.{length-tab, getD-tab, all-tab}
+use Rattle.algebra.specs.PolynomialLaws.{tab-elements, append-elements}
+use Rattle.algebra.specs.Tables.{getD-tab}
 use Rattle.field.specs.Fields.{Admissible, tag}
 use Rattle.field.specs.Primes.{field-prime}
 use Rattle.field.specs.Domain.{tag-lt}
@@ -32,7 +32,7 @@ rows-elements p n selectors labels A e =
     let pos : 0 < p = omega (arith, field-prime p (A .one-of-three) .two) in
     subst (λ (m : ℕ). Elements p m (rowsOf p n selectors labels)) sum
     (append-elements e
-    record { long = length-tab _ (3 * n); below = all-tab (λ (a : ℕ). a < p) _ (3 * n) (λ k h. tag-lt p n _ pos) })
+    (tab-elements _ (3 * n) (λ k h. tag-lt p n _ pos)))
 
 module _ (p n : ℕ) (selectors labels : List ℕ) (l : length selectors ≡ selectorsLength n) where
   abbrev tags : List ℕ

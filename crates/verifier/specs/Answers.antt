@@ -18,7 +18,8 @@ use native.Mathlib.Omega.{arith}
 use lib.ListN.{length}
 use Rattle.algebra.specs.Lists.{AtMost, tab}
 use Rattle.algebra.specs.Polynomial.{Elements}
-use Rattle.algebra.specs.Tables.{length-tab, getD-tab, all-tab}
+use Rattle.algebra.specs.PolynomialLaws.{tab-elements}
+use Rattle.algebra.specs.Tables.{getD-tab}
 use Rattle.algebra.specs.Counting.{at-most-of}
 use Rattle.field.specs.Fields.{Admissible}
 use Rattle.field.specs.Primes.{field-prime}
@@ -149,13 +150,10 @@ lent-values : (p n : ℕ) (z : List ℕ) (i : ℕ) → i < n → lentZ (evaluati
 unfolding evaluation
 lent-values p n z i h = getD-tab (valueAt p n z) n i h
 
--- tables of numbers modulo p, and of challenges
-table-elements : {p : ℕ} (f : ℕ → ℕ) (m : ℕ) → ((k : ℕ) → k < m → f k < p) → Elements p m (tab f m)
-table-elements {p} f m h = record { long = length-tab f m; below = all-tab (λ (x : ℕ). x < p) f m h }
-
+-- values at the domain points
 evaluation-elements : (p n : ℕ) → 0 < p → (z : List ℕ) → Elements p n (evaluation p n z)
 unfolding evaluation
-evaluation-elements p n h z = table-elements (valueAt p n z) n (λ k l. mod-lt _ h)
+evaluation-elements p n h z = tab-elements (valueAt p n z) n (λ k l. mod-lt _ h)
 
 module _ (p n l : ℕ) (selectors labels publics : List ℕ) where
   abbrev C : Circuit
@@ -243,7 +241,7 @@ module _ (p n : ℕ) (A : Admissible p n) (l : ℕ) (selectors labels publics : 
       checks .verdict
       ∙ answer-pass _ _
       (checks .answer
-      ∙ rows-taken A right rightX elements (table-elements Z n (λ i u. rowZ-lt p n two _ _ beta gamma i)) drawn)
+      ∙ rows-taken A right rightX elements (tab-elements Z n (λ i u. rowZ-lt p n two _ _ beta gamma i)) drawn)
       verdict
 
   honest-point : (witness : List ℕ)
