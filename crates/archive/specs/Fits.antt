@@ -19,7 +19,7 @@ use Rattle.protocol.specs.Protocol.{rowZ, wiresOf, zOf, tOf, quotient, PointVer
 use Rattle.protocol.specs.Lengths.{interpolation-length}
 use Rattle.archive.specs.declared.Deposited.{Deposited}
 use Rattle.archive.specs.Printed.{refusedWord, letterLine, refusedText, verdictText, textLength, provedText, workAnswer, workText}
-use Rattle.archive.specs.Lines.{length-line, length-wires}
+use Rattle.archive.specs.Lines.{length-line, length-five}
 use Rattle.sheet.specs.Sheet.{readAnswer}
 use Rattle.archive.specs.Deposit.{depositText, Deposits}
 use Rattle.archive.specs.Sheets.{right-of}
@@ -52,36 +52,18 @@ module _ (p n : ℕ) (C : Circuit) (x v : ℕ → ℕ) (beta gamma alpha zeta : 
   unfolding quotient
   t-long = length-reduced p (quotientLength n) _
 
-  wires-long : length wires ≤ 33 * n + 6
-  wires-long =
-      omega (
-        arith,
-        length-wires (wiresOf p n v 0) (wiresOf p n v 1) (wiresOf p n v 2),
-        interpolation-length p n (λ i. v (position n 0 i)),
-        interpolation-length p n (λ i. v (position n 1 i)),
-        interpolation-length p n (λ i. v (position n 2 i)),
-      )
-
-  rest-long : length (letterLine 122 z ++ letterLine 116 t) ≤ 44 * n + 4
-  rest-long =
-      omega (
-        arith,
-        length-append (letterLine 122 z) (letterLine 116 t),
-        length-line (122 ∷ []) z,
-        length-line (116 ∷ []) t,
-        interpolation-length p n (rowZ p n C v beta gamma),
-        t-long,
-      )
-
   proved-fits : length (provedText p n C x v beta gamma alpha zeta) ≤ textLength
   unfolding provedText
   proved-fits =
       omega (
         arith,
         length-append (wires ++ (letterLine 122 z ++ letterLine 116 t)) verdict,
-        length-append wires (letterLine 122 z ++ letterLine 116 t),
-        wires-long,
-        rest-long,
+        length-five (wiresOf p n v 0) (wiresOf p n v 1) (wiresOf p n v 2) z t,
+        interpolation-length p n (λ i. v (position n 0 i)),
+        interpolation-length p n (λ i. v (position n 1 i)),
+        interpolation-length p n (λ i. v (position n 2 i)),
+        interpolation-length p n (rowZ p n C v beta gamma),
+        t-long,
         verdict-long (pointVerdict p n (prepared p n C) x (proved p n C x v beta gamma alpha) beta gamma alpha zeta),
       )
 

@@ -3,8 +3,8 @@
 -- Laid m transcript out    a transcript of m rows, up to 256, and a buffer of the text's length
 -- length-line              a line has at most 11 bytes for each number, and its word and byte 10
 -- length-wires             the lines of the wires
--- wires-long               those of a transcript have at most 33m + 6 bytes
--- transcript-fits          the lines of all five polynomials fit, with room for a verdict
+-- length-five              the lines of the five polynomials
+-- transcript-fits          those of a transcript fit, with room for a verdict
 --
 -- Assumes nothing.
 use mathlib.Core.Path.{_≡_}
@@ -39,30 +39,30 @@ length-wires a b c =
       length-line (99 ∷ []) c,
     )
 
--- the lines of z and t, and all five, for a transcript of the right length
-module _ (m : ℕ) {l out : List ℕ} (L : Laid m l out) where
-  abbrev wires : List ℕ
-  wires = letterLine 97 (wirePart m 0 l) ++ (letterLine 98 (wirePart m 1 l) ++ letterLine 99 (wirePart m 2 l))
+pub length-five : (a b c z t : List ℕ)
+    → length (letterLine 97 a ++ (letterLine 98 b ++ letterLine 99 c) ++ (letterLine 122 z ++ letterLine 116 t))
+    ≤ 11 * length a + 11 * length b + 11 * length c + 11 * length z + 11 * length t + 10
+length-five a b c z t =
+    omega (
+      arith,
+      length-append (letterLine 97 a ++ (letterLine 98 b ++ letterLine 99 c)) (letterLine 122 z ++ letterLine 116 t),
+      length-wires a b c,
+      length-append (letterLine 122 z) (letterLine 116 t),
+      length-line (122 ∷ []) z,
+      length-line (116 ∷ []) t,
+    )
 
-  abbrev rest : List ℕ
-  rest = letterLine 122 (zPart m l) ++ letterLine 116 (tPart m l)
-
-  pub wires-long : length (letterLine 97 (wirePart m 0 l) ++ (letterLine 98 (wirePart m 1 l) ++ letterLine 99 (wirePart m 2 l))) ≤ 33 * m + 6
-  wires-long =
-      omega (arith, length-wires (wirePart m 0 l) (wirePart m 1 l) (wirePart m 2 l), short-wire m l 0, short-wire m l 1, short-wire m l 2)
-
-  pub transcript-fits : length (transcriptText m l) + 7 ≤ length out
-  transcript-fits =
-      omega (
-        arith,
-        length-append wires rest,
-        wires-long,
-        length-append (letterLine 122 (zPart m l)) (letterLine 116 (tPart m l)),
-        length-line (122 ∷ []) (zPart m l),
-        length-line (116 ∷ []) (tPart m l),
-        short-z m l,
-        length-drop (tStart m) l,
-        L .few,
-        L .long,
-        L .room,
-      )
+pub transcript-fits : (m : ℕ) {l out : List ℕ} → Laid m l out → length (transcriptText m l) + 7 ≤ length out
+transcript-fits m {l} L =
+    omega (
+      arith,
+      length-five (wirePart m 0 l) (wirePart m 1 l) (wirePart m 2 l) (zPart m l) (tPart m l),
+      short-wire m l 0,
+      short-wire m l 1,
+      short-wire m l 2,
+      short-z m l,
+      length-drop (tStart m) l,
+      L .few,
+      L .long,
+      L .room,
+    )

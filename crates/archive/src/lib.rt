@@ -42,18 +42,18 @@ fn print_read(
     ensures { λ r. ⌜ Puts 0 (workText p n l (take (selectorsLength n) (now (selectors .entry))) (take (labelsLength n) (now (labels .entry))) (take (witnessLength n) (now (witness .entry))) (take l (now (publics .entry))) (now (challenges .entry))) (now (text .entry)) r (now (text .exit)) ⌝ }
 {
     let m = n as usize;
-    let first = circuit::selectors_length(m);
-    let second = circuit::labels_length(m);
-    let third = circuit::witness_length(m);
-    let fourth = l as usize;
+    let selectors_end = circuit::selectors_length(m);
+    let labels_end = circuit::labels_length(m);
+    let witness_end = circuit::witness_length(m);
+    let publics_end = l as usize;
     work::print_work(
         p,
         n,
         l,
-        &selectors[..first],
-        &labels[..second],
-        &witness[..third],
-        &publics[..fourth],
+        &selectors[..selectors_end],
+        &labels[..labels_end],
+        &witness[..witness_end],
+        &publics[..publics_end],
         challenges,
         text,
     )
