@@ -16,6 +16,7 @@ pub mod Same
 pub mod Counting
 pub mod Products
 pub mod Roots
+pub mod Linear
 pub mod Division
 pub mod Pairs
 pub mod Ring

@@ -6,6 +6,7 @@
 -- preparedLength                        of a prepared circuit: eight polynomials of n coefficients
 -- wireLength, zLength, quotientLength   the coefficients of a wire, of z and of t
 -- transcriptLength                      of a transcript: 7n - 3 (`transcript-long` of Parts)
+-- openingLength                         the coefficients of an opening polynomial: one less than t has
 -- PLACES
 -- preparedStart n s                     where polynomial s of a prepared circuit starts
 -- wireStart n c, zStart n, tStart n     where the wire of column c, z and t start in a transcript
@@ -40,6 +41,9 @@ zLength n = n
 
 abbrev pub quotientLength : ℕ → ℕ
 quotientLength n = 3 * n - 3
+
+abbrev pub openingLength : ℕ → ℕ
+openingLength n = quotientLength n - 1
 
 -- PLACES
 

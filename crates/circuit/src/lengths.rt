@@ -1,7 +1,7 @@
 // How many numbers the lent buffers have for n rows, and where the polynomials start in them. (The scratch's length stands in `transform`.)
 ghost use mathlib.Core.Path.{_≡_};
 ghost use Prim.Native.Nat.{_<_};
-ghost use Rattle.circuit.specs.Buffers.{selectorsLength, labelsLength, witnessLength, preparedLength, wireLength, zLength, quotientLength, transcriptLength, preparedStart, wireStart, zStart, tStart};
+ghost use Rattle.circuit.specs.Buffers.{selectorsLength, labelsLength, witnessLength, preparedLength, wireLength, zLength, quotientLength, transcriptLength, openingLength, preparedStart, wireStart, zStart, tStart};
 
 pub fn selectors_length(n: usize) -> usize
     requires { ⌜ n < 4294967296 ⌝ }
@@ -56,6 +56,18 @@ pub fn quotient_length(n: usize) -> usize
         return 0;
     }
     3 * n - 3
+}
+
+// The coefficients of an opening polynomial: one less than t has.
+pub fn opening_length(n: usize) -> usize
+    requires { ⌜ n < 4294967296 ⌝ }
+    ensures { λ r. ⌜ r ≡ openingLength n ⌝ }
+{
+    let t = quotient_length(n);
+    if t == 0 {
+        return 0;
+    }
+    t - 1
 }
 
 // Where polynomial s of a prepared circuit starts.

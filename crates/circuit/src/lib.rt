@@ -18,7 +18,9 @@ mod witness;
 
 pub use copies::fill_permutation;
 pub use lengths::labels_length;
+pub use lengths::opening_length;
 pub use lengths::prepared_length;
+pub use lengths::quotient_length;
 pub use lengths::selectors_length;
 pub use lengths::t_start;
 pub use lengths::transcript_length;

@@ -1,0 +1,127 @@
+-- What an opening shows, about the calls' own answers: any that keep the calls' promises, Opens and ChecksOpening.
+--
+-- THE STATEMENT
+-- OpeningAccepts      a mixing number with which `check_opening`, lent these evaluations and some opening polynomial of 3n - 4 elements, answers Accept
+-- few-mixtures        evaluations that are not all right: there are fewer such numbers than the list is long
+-- opened-accepted     after an accepted `open`, `check_opening` lent the same buffers answers Accept, whatever the point and m
+-- THE PROOF
+-- accept-of           an answer Accept is a verdict accept
+--
+-- Assumes nothing.
+use mathlib.Core.Path.{_≡_, refl, sym, ap, _∙_}
+use mathlib.Core.Logic.{_≢_}
+use mathlib.Core.Bool.{Bool, true, false, cond}
+use mathlib.Core.List.{List, [], _∷_, _++_}
+use Prim.Native.Nat.{ℕ, _-_, _<_}
+use native.Mathlib.Omega.{arith}
+use lib.ListN.{length, getD, replicate, length-replicate}
+use borrow.Author.Tests.{eq-eqb}
+use Rattle.algebra.specs.Lists.{All, AtMost}
+use Rattle.algebra.specs.Polynomial.{Elements}
+use Rattle.algebra.specs.Counting.{at-most-of}
+use Rattle.algebra.specs.Tables.{all-append, all-left, all-right}
+use Rattle.field.specs.declared.Answer.{Answer}
+use Rattle.field.specs.Reasons.{answerOf, isAccepted}
+use Rattle.transform.specs.Transform.{scratchLength}
+use Rattle.circuit.specs.Buffers.{openingLength}
+use Rattle.protocol.specs.Protocol.{PointVerdict, accept, reject}
+use Rattle.pointcheck.specs.declared.PointAnswer.{PointAnswer}
+use Rattle.pointcheck.specs.declared.Judged.the-variants.{None, Accept, Reject}
+use Rattle.pointcheck.specs.Buffers.{Readable}
+use Rattle.pointcheck.specs.Promises.{judgedAs}
+use Rattle.opening.specs.Opening.{evaluationsOf, openingOf, openingVerdict}
+use Rattle.opening.specs.Reasons.{openReasons, checkReasons}
+use Rattle.opening.specs.Promises.{Opens, ChecksOpening}
+use Rattle.opening.specs.RightlyLent.{RightList, LentRightly, opening-known, open-known, check-taken}
+use Rattle.opening.specs.Openings.{PassingMixture, Openings, openings}
+
+-- THE STATEMENT
+
+pub record OpeningAccepts (p n : ℕ) (prepared transcript list evaluations : List ℕ) (point m : ℕ) : Type 0 where
+  pub m-element : m < p
+  pub opening : List ℕ
+  pub opening-elements : Elements p (openingLength n) opening
+  pub scratch : List ℕ
+  pub scratch' : List ℕ
+  pub r : PointAnswer
+  pub checks : ChecksOpening p n prepared transcript list evaluations opening (point ∷ m ∷ []) scratch r scratch'
+  pub accepts : r .verdict ≡ Accept
+
+-- THE PROOF
+
+accept-of : (b : Bool) (v : PointVerdict) → cond b (judgedAs v) None ≡ Accept → v ≡ accept
+accept-of true accept e = refl
+accept-of true reject e = cc
+accept-of false v e = cc
+
+pub few-mixtures : (p n : ℕ) (prepared transcript list : List ℕ) → Readable p n prepared transcript
+    → (point : ℕ) (evaluations : List ℕ) → Elements p (length list) evaluations → evaluations ≢ evaluationsOf p n prepared transcript list point
+    → AtMost (length list - 1) (OpeningAccepts p n prepared transcript list evaluations point)
+few-mixtures p n prepared transcript list R point evaluations E wrong =
+    at-most-of (openings p n prepared transcript list R .sound point evaluations E wrong)
+    (λ m h. record {
+      m-element = h .m-element;
+      opening = h .opening;
+      opening-elements = h .opening-elements;
+      accepted = accept-of (isAccepted (h .r .answer)) _ (sym (h .checks .verdict) ∙ h .accepts);
+    })
+    (omega arith)
+
+module _ (p n : ℕ) (prepared transcript list evaluations opening challenges scratch : List ℕ) (r : Answer) (evaluations' opening' scratch' : List ℕ)
+    (opens : Opens p n prepared transcript list evaluations opening challenges scratch r evaluations' opening' scratch') (taken : r .number ≡ 0) where
+  known : LentRightly p n prepared transcript list evaluations opening challenges scratch
+  known = opening-known p n prepared transcript list evaluations opening challenges scratch false (sym (ap (λ (a : Answer). a .number) (opens .answer)) ∙ taken)
+
+  O : Openings p n prepared transcript list
+  O = openings p n prepared transcript list (known .checked .readable)
+
+  abbrev point : ℕ
+  point = getD challenges 0 0
+
+  abbrev m : ℕ
+  m = getD challenges 1 0
+
+  evaluated : evaluations' ≡ evaluationsOf p n prepared transcript list (getD challenges 0 0)
+  evaluated = rw (eq-eqb _ _ taken) at (opens .evaluated)
+
+  opened : opening' ≡ openingOf p n prepared transcript list (getD challenges 0 0) (getD challenges 1 0)
+  opened = rw (eq-eqb _ _ taken) at (opens .opened)
+
+  cleared : scratch' ≡ replicate (scratchLength n) 0
+  cleared = rw (eq-eqb _ _ taken) at (opens .cleared)
+
+  right-evaluations : Elements p (length list) evaluations'
+  right-evaluations = rw evaluated (O .evaluations-long point)
+
+  right-opening : Elements p (openingLength n) opening'
+  right-opening = rw opened (O .opening-long point m)
+
+  lent-again : LentRightly p n prepared transcript list evaluations' opening' challenges scratch'
+  lent-again =
+      record {
+        checked = record {
+          readable = known .checked .readable;
+          evaluations-length = right-evaluations .long;
+          opening-length = right-opening .long;
+          challenges-length = known .checked .challenges-length;
+        };
+        scratch-length = ap length cleared ∙ length-replicate (scratchLength n) 0;
+        list-right = known .list-right;
+      }
+
+  elements : All (λ (x : ℕ). x < p) (prepared ++ (transcript ++ (evaluations' ++ (opening' ++ challenges))))
+  elements =
+      let P : ℕ → Type 0 = λ x. x < p in
+      let was = open-known p n prepared transcript list evaluations opening challenges scratch (sym (ap (λ (a : Answer). a .number) (opens .answer)) ∙ taken) in
+      let later = all-right P prepared (transcript ++ challenges) was in
+      all-append P prepared _ (all-left P prepared (transcript ++ challenges) was)
+      (all-append P transcript _ (all-left P transcript challenges later)
+      (all-append P evaluations' _ (right-evaluations .below) (all-append P opening' _ (right-opening .below) (all-right P transcript challenges later))))
+
+  pub opened-accepted : (s : PointAnswer) (scratch'' : List ℕ)
+      → ChecksOpening p n prepared transcript list evaluations' opening' challenges scratch' s scratch'' → s .verdict ≡ Accept
+  opened-accepted s scratch'' checks =
+      let answered : s .answer ≡ record { number = 0; detail = 0 } =
+      checks .answer ∙ check-taken p n prepared transcript list evaluations' opening' challenges scratch' lent-again elements in
+      let verdict : openingVerdict p n prepared transcript list evaluations' opening' point m ≡ accept = rw (evaluated, opened) (O .complete point m) in
+      checks .verdict ∙ rw (answered, verdict)

@@ -1,0 +1,51 @@
+-- The reasons for turning down `open` and `check_opening`, in order: 2, 3 and 6, then those of the list, 12 and 13, then 7.
+--
+-- openingDue n k       the lengths due, k being the list's: prepared circuit, transcript, list (of any length), evaluations, opening polynomial,
+--                      challenges, scratch
+-- badList list         12: the list is empty or longer than 13
+-- badNumber list       13: a polynomial number is above 12; detail: the first such place in the list
+-- listReasons list     12 and 13
+-- lentListReasons      the reasons of both calls but the last: those of p, n and the lengths, then those of the list
+-- openReasons          all reasons of `open`, which only writes the evaluations and the opening polynomial: 7 skips them
+-- checkReasons         all reasons of `check_opening`
+-- openingReasons       of one or the other
+--
+-- Assumes nothing.
+use mathlib.Core.Bool.{Bool, true, false, _||_}
+use mathlib.Core.List.{List, [], _∷_, _++_}
+use Prim.Native.Nat.{ℕ}
+use lib.Dec.{eqb, ltb}
+use lib.ListN.{length}
+use Rattle.field.specs.Reasons.{Reason, lentReasons, reasonAt, firstAbove, badElement}
+use Rattle.transform.specs.Transform.{scratchLength}
+use Rattle.circuit.specs.Buffers.{preparedLength, transcriptLength, openingLength}
+
+abbrev pub openingDue : (n k : ℕ) → List ℕ
+openingDue n k = preparedLength n ∷ transcriptLength n ∷ k ∷ k ∷ openingLength n ∷ 2 ∷ scratchLength n ∷ []
+
+abbrev pub badList : List ℕ → Reason
+badList list = record { number = 12; detail = 0; applies = eqb (length list) 0 || ltb 13 (length list) }
+
+abbrev pub badNumber : List ℕ → Reason
+badNumber list = reasonAt 13 (firstAbove 13 list) (length list)
+
+abbrev pub listReasons : List ℕ → List Reason
+listReasons list = badList list ∷ badNumber list ∷ []
+
+module _ (p n : ℕ) (prepared transcript list evaluations opening challenges scratch : List ℕ) where
+  abbrev pub lentListReasons : List Reason
+  lentListReasons =
+      lentReasons p n 0
+      (length prepared ∷ length transcript ∷ length list ∷ length evaluations ∷ length opening ∷ length challenges ∷ length scratch ∷ [])
+      (openingDue n (length list))
+      ++ listReasons list
+
+  abbrev pub openReasons : List Reason
+  openReasons = lentListReasons ++ (badElement p (prepared ++ (transcript ++ challenges)) ∷ [])
+
+  abbrev pub checkReasons : List Reason
+  checkReasons = lentListReasons ++ (badElement p (prepared ++ (transcript ++ (evaluations ++ (opening ++ challenges)))) ∷ [])
+
+  abbrev pub openingReasons : Bool → List Reason
+  openingReasons true = checkReasons
+  openingReasons false = openReasons

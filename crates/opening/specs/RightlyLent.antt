@@ -1,0 +1,130 @@
+-- Calls that are not turned down: exactly those whose numbers and buffers are lent rightly.
+--
+-- RightList list      1 to 13 numbers, each at most 12
+-- LentRightly         p and n are admissible, the lengths are those due, and the list is right
+-- lent-list-numbers   no reason of the calls has number 0
+-- lent-list-of, lent-list-taken   where no reason but 7 applies, the call is lent rightly; and back
+-- opening-known       what is known where no reason of one of the calls applies
+-- open-known          the same of `open`, with its elements
+-- open-taken, check-taken         a call that is lent rightly, with elements in its buffers, is never turned down
+--
+-- Assumes nothing.
+use mathlib.Core.Path.{_≡_, refl, sym, ap, _∙_}
+use mathlib.Core.Logic.{_≢_}
+use mathlib.Core.Bool.{Bool, true, false, _||_}
+use mathlib.Core.List.{List, [], _∷_, _++_}
+use Prim.Native.Nat.{ℕ, _≤_, _<_}
+use native.Mathlib.Omega.{arith}
+use lib.Dec.{eqb, ltb}
+use lib.ListN.{length}
+use borrow.Author.Tests.{eqb-false, ltb-false, ne-eqb, le-ltb}
+use Rattle.algebra.specs.Lists.{All}
+use Rattle.algebra.specs.Search.{both-false}
+use Rattle.field.specs.Reasons.{Reason, answerOf, lentReasons, badElement}
+use Rattle.field.specs.ReasonLaws.{none-applies, taken, both-none, both-taken, elements-of, elements-none}
+use Rattle.field.specs.Lent.{Lent, lent-numbers, lent-of, lent-taken}
+use Rattle.transform.specs.Transform.{scratchLength}
+use Rattle.circuit.specs.Buffers.{preparedLength, transcriptLength, openingLength}
+use Rattle.pointcheck.specs.Buffers.{Readable}
+use Rattle.opening.specs.Reasons.{openingDue, listReasons, lentListReasons, openReasons, checkReasons, openingReasons}
+use Rattle.opening.specs.Buffers.{Checked}
+
+pub record RightList (list : List ℕ) : Type 0 where
+  pub some : 1 ≤ length list
+  pub few : length list ≤ 13
+  pub numbers : All (λ (k : ℕ). k < 13) list
+
+pub record LentRightly (p n : ℕ) (prepared transcript list evaluations opening challenges scratch : List ℕ) : Type 0 where
+  pub checked : Checked p n prepared transcript list evaluations opening challenges
+  pub scratch-length : length scratch ≡ scratchLength n
+  pub list-right : RightList list
+
+-- THE LIST
+
+list-of : (list : List ℕ) → answerOf (listReasons list) .number ≡ 0 → RightList list
+list-of list e =
+    let none = none-applies (listReasons list) (omega arith, (omega arith, tt)) e in
+    let long = both-false (eqb (length list) 0) (ltb 13 (length list)) (none .0) in
+    record {
+      some = omega (arith, eqb-false (length list) 0 (long .0));
+      few = ltb-false 13 (length list) (long .1);
+      numbers = elements-of 13 list (none .1 .0);
+    }
+
+list-taken : (list : List ℕ) → RightList list → answerOf (listReasons list) ≡ record { number = 0; detail = 0 }
+list-taken list L =
+    let some : eqb (length list) 0 ≡ false = ne-eqb (length list) 0 (λ z. omega (arith, L .some)) in
+    let long : (eqb (length list) 0 || ltb 13 (length list)) ≡ false = rw some (le-ltb 13 (length list) (L .few)) in
+    taken (listReasons list) (long, (elements-none 13 list (L .numbers), tt))
+
+-- BOTH CALLS
+
+module _ (p n : ℕ) (prepared transcript list evaluations opening challenges scratch : List ℕ) where
+  abbrev long : List ℕ
+  long = length prepared ∷ length transcript ∷ length list ∷ length evaluations ∷ length opening ∷ length challenges ∷ length scratch ∷ []
+
+  -- the reasons of both calls but the last
+  abbrev begun : List Reason
+  begun = lentListReasons p n prepared transcript list evaluations opening challenges scratch
+
+  pub lent-list-numbers : All (λ r. r .number ≢ 0) (lentListReasons p n prepared transcript list evaluations opening challenges scratch)
+  lent-list-numbers = (omega arith, (omega arith, (omega arith, (omega arith, (omega arith, (omega arith, tt))))))
+
+  pub lent-list-of : answerOf (lentListReasons p n prepared transcript list evaluations opening challenges scratch) .number ≡ 0
+      → LentRightly p n prepared transcript list evaluations opening challenges scratch
+  lent-list-of e =
+      let due = openingDue n (length list) in
+      let both = both-none (lentReasons p n 0 long due) (listReasons list) (lent-numbers p n 0 long due) e in
+      let lent = lent-of p n 0 long due refl (both .0) in
+      record {
+        checked = record {
+          readable = record { admissible = lent .admissible; prepared-length = cc (lent .lengths); transcript-length = cc (lent .lengths) };
+          evaluations-length = cc (lent .lengths);
+          opening-length = cc (lent .lengths);
+          challenges-length = cc (lent .lengths);
+        };
+        scratch-length = cc (lent .lengths);
+        list-right = list-of list (both .1);
+      }
+
+  pub lent-list-taken : LentRightly p n prepared transcript list evaluations opening challenges scratch
+      → answerOf (lentListReasons p n prepared transcript list evaluations opening challenges scratch) ≡ record { number = 0; detail = 0 }
+  lent-list-taken L =
+      let due = openingDue n (length list) in
+      let c = L .checked in
+      both-taken (lentReasons p n 0 long due) (listReasons list) (lent-numbers p n 0 long due)
+      (lent-taken
+      (record {
+        admissible = c .readable .admissible;
+        publics-few = omega arith;
+        lengths = cc (c .readable .prepared-length, c .readable .transcript-length, c .evaluations-length, c .opening-length, c .challenges-length, L .scratch-length);
+      }))
+      (list-taken list (L .list-right))
+
+  -- EACH CALL
+
+  pub opening-known : (checks : Bool)
+      → answerOf (openingReasons p n prepared transcript list evaluations opening challenges scratch checks) .number ≡ 0
+      → LentRightly p n prepared transcript list evaluations opening challenges scratch
+  opening-known true e = lent-list-of (both-none begun (badElement p (prepared ++ (transcript ++ (evaluations ++ (opening ++ challenges)))) ∷ []) lent-list-numbers e .0)
+  opening-known false e = lent-list-of (both-none begun (badElement p (prepared ++ (transcript ++ challenges)) ∷ []) lent-list-numbers e .0)
+
+  pub open-known : answerOf (openReasons p n prepared transcript list evaluations opening challenges scratch) .number ≡ 0
+      → All (λ (x : ℕ). x < p) (prepared ++ (transcript ++ challenges))
+  open-known e =
+      let all : List ℕ = prepared ++ (transcript ++ challenges) in
+      elements-of p all (none-applies (badElement p all ∷ []) (omega arith, tt) (both-none begun (badElement p all ∷ []) lent-list-numbers e .1) .0)
+
+  pub open-taken : LentRightly p n prepared transcript list evaluations opening challenges scratch
+      → All (λ (x : ℕ). x < p) (prepared ++ (transcript ++ challenges))
+      → answerOf (openReasons p n prepared transcript list evaluations opening challenges scratch) ≡ record { number = 0; detail = 0 }
+  open-taken L a =
+      let all : List ℕ = prepared ++ (transcript ++ challenges) in
+      both-taken begun (badElement p all ∷ []) lent-list-numbers (lent-list-taken L) (taken (badElement p all ∷ []) (elements-none p all a, tt))
+
+  pub check-taken : LentRightly p n prepared transcript list evaluations opening challenges scratch
+      → All (λ (x : ℕ). x < p) (prepared ++ (transcript ++ (evaluations ++ (opening ++ challenges))))
+      → answerOf (checkReasons p n prepared transcript list evaluations opening challenges scratch) ≡ record { number = 0; detail = 0 }
+  check-taken L a =
+      let all : List ℕ = prepared ++ (transcript ++ (evaluations ++ (opening ++ challenges))) in
+      both-taken begun (badElement p all ∷ []) lent-list-numbers (lent-list-taken L) (taken (badElement p all ∷ []) (elements-none p all a, tt))
