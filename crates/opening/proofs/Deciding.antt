@@ -12,7 +12,7 @@ use native.Mathlib.Omega.{arith}
 use lib.ListN.{length}
 use Rattle.field.specs.declared.Answer.{Answer}
 use Rattle.field.specs.Primes.{rows-power}
-use Rattle.field.specs.Reasons.{Reason, answerOf, badElement}
+use Rattle.field.specs.Reasons.{answerOf, badElement}
 use Rattle.field.specs.ReasonLaws.{refused-first}
 use Rattle.opening.specs.Reasons.{lentListReasons, openingReasons}
 use Rattle.opening.specs.RightlyLent.{lent-list-numbers, lent-list-of}

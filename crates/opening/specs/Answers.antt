@@ -21,19 +21,18 @@ use Rattle.algebra.specs.Polynomial.{Elements}
 use Rattle.algebra.specs.Counting.{at-most-of}
 use Rattle.algebra.specs.Tables.{all-append, all-left, all-right}
 use Rattle.field.specs.declared.Answer.{Answer}
-use Rattle.field.specs.Reasons.{answerOf, isAccepted}
+use Rattle.field.specs.Reasons.{isAccepted}
 use Rattle.transform.specs.Transform.{scratchLength}
 use Rattle.circuit.specs.Buffers.{openingLength}
 use Rattle.protocol.specs.Protocol.{PointVerdict, accept, reject}
 use Rattle.pointcheck.specs.declared.PointAnswer.{PointAnswer}
-use Rattle.pointcheck.specs.declared.Judged.the-variants.{None, Accept, Reject}
+use Rattle.pointcheck.specs.declared.Judged.the-variants.{None, Accept}
 use Rattle.pointcheck.specs.Buffers.{Readable}
 use Rattle.pointcheck.specs.Promises.{judgedAs}
 use Rattle.opening.specs.Opening.{evaluationsOf, openingOf, openingVerdict}
-use Rattle.opening.specs.Reasons.{openReasons, checkReasons}
 use Rattle.opening.specs.Promises.{Opens, ChecksOpening}
-use Rattle.opening.specs.RightlyLent.{RightList, LentRightly, opening-known, open-known, check-taken}
-use Rattle.opening.specs.Openings.{PassingMixture, Openings, openings}
+use Rattle.opening.specs.RightlyLent.{LentRightly, opening-known, open-known, check-taken}
+use Rattle.opening.specs.Openings.{Openings, openings}
 
 -- THE STATEMENT
 

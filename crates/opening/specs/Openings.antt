@@ -15,7 +15,7 @@ use mathlib.Core.Path.{_≡_, refl, sym, ap, _∙_}
 use mathlib.Core.Logic.{_≢_}
 use mathlib.Core.Bool.{Bool, true, false, not}
 use mathlib.Core.List.{List}
-use Prim.Native.Nat.{ℕ, zero, suc, _-_, _%_, _≤_, _<_}
+use Prim.Native.Nat.{ℕ, zero, suc, _-_, _≤_, _<_}
 use native.Mathlib.Nat.{mod-lt, mod-eq-of-lt}
 use native.Mathlib.Decide.{decLt}
 use native.Mathlib.Omega.{arith}
@@ -26,19 +26,19 @@ use borrow.Author.Tests.{not-true, eqb-false, le-ltb}
 use Rattle.algebra.specs.Lists.{tab, AtMost}
 use Rattle.algebra.specs.Modular.{Prime}
 use Rattle.algebra.specs.Search.{first-is}
-use Rattle.algebra.specs.Polynomial.{coef, eval, mulP, linear, quotientLinear, reduced, isSame, Elements, SameP, Root}
-use Rattle.algebra.specs.Congruence.{Cong, cong, _⨾_, back, is-0}
+use Rattle.algebra.specs.Polynomial.{mulP, linear, quotientLinear, reduced, Elements, SameP, Root}
+use Rattle.algebra.specs.Congruence.{cong, _⨾_, is-0}
 use Rattle.algebra.specs.Counting.{at-most-of}
 use Rattle.algebra.specs.Tables.{length-tab, getD-tab, all-getD}
-use Rattle.algebra.specs.PolynomialLaws.{eval-cong, tab-elements, reduced-elements, reduced-ext, reduced-same, coef-reduced, length-reduced}
+use Rattle.algebra.specs.PolynomialLaws.{eval-cong, tab-elements, reduced-elements, reduced-same, coef-reduced, length-reduced}
 use Rattle.algebra.specs.Same.{same-refl, same-mul, same-tested, tested-same}
 use Rattle.algebra.specs.Roots.{roots, length-quotient-linear}
 use Rattle.algebra.specs.Linear.{linear-root, linear-exact, linear-only}
 use Rattle.field.specs.Primes.{field-prime}
 use Rattle.field.specs.Reasons.{firstOther}
 use Rattle.field.specs.Lent.{lengths-same}
-use Rattle.circuit.specs.Buffers.{quotientLength, openingLength}
-use Rattle.protocol.specs.Protocol.{PointVerdict, accept, reject}
+use Rattle.circuit.specs.Buffers.{openingLength}
+use Rattle.protocol.specs.Protocol.{accept, reject}
 use Rattle.pointcheck.specs.Buffers.{Readable}
 use Rattle.opening.specs.Opening.{evaluationsOf, mixtureOf, openingOf, openingVerdict}
 use Rattle.opening.specs.Mixing.{length-mixture, errors, eval-mixture, no-errors, error-found}

@@ -9,7 +9,7 @@
 -- open-taken, check-taken         a call that is lent rightly, with elements in its buffers, is never turned down
 --
 -- Assumes nothing.
-use mathlib.Core.Path.{_≡_, refl, sym, ap, _∙_}
+use mathlib.Core.Path.{_≡_, refl}
 use mathlib.Core.Logic.{_≢_}
 use mathlib.Core.Bool.{Bool, true, false, _||_}
 use mathlib.Core.List.{List, [], _∷_, _++_}
@@ -22,10 +22,8 @@ use Rattle.algebra.specs.Lists.{All}
 use Rattle.algebra.specs.Search.{both-false}
 use Rattle.field.specs.Reasons.{Reason, answerOf, lentReasons, badElement}
 use Rattle.field.specs.ReasonLaws.{none-applies, taken, both-none, both-taken, elements-of, elements-none}
-use Rattle.field.specs.Lent.{Lent, lent-numbers, lent-of, lent-taken}
+use Rattle.field.specs.Lent.{lent-numbers, lent-of, lent-taken}
 use Rattle.transform.specs.Transform.{scratchLength}
-use Rattle.circuit.specs.Buffers.{preparedLength, transcriptLength, openingLength}
-use Rattle.pointcheck.specs.Buffers.{Readable}
 use Rattle.opening.specs.Reasons.{openingDue, listReasons, lentListReasons, openReasons, checkReasons, openingReasons}
 use Rattle.opening.specs.Buffers.{Checked}
 

@@ -15,12 +15,11 @@ use lib.ListN.{replicate}
 use Rattle.algebra.specs.Lists.{tab, All}
 use Rattle.algebra.specs.Modular.{powF, first, inverse}
 use Rattle.algebra.specs.Polynomial.{quotientVanishing, reduced}
-use Rattle.field.specs.declared.Answer.{Answer}
 use Rattle.field.specs.Fields.{isField, isRows, greatestRows, generator, root, point, multiplier, tag}
 use Rattle.field.specs.Reasons.{answerOf, firstOther, firstAbove}
 use Rattle.transform.specs.Transform.{interpolation}
 use Rattle.circuit.specs.Circuit.{lentWitness, permutation}
-use Rattle.protocol.specs.Protocol.{rowN, rowD, rowZ, polyN, polyD, polyL, gatePart, stepPart, startPart, polyF, quotient, proved, PointVerdict, accept, reject}
+use Rattle.protocol.specs.Protocol.{rowN, rowD, rowZ, polyN, polyD, polyL, gatePart, stepPart, startPart, polyF, quotient, proved, accept, reject}
 use Rattle.protocol.specs.Protocol as protocol
 use Rattle.protocol.specs.Worked.{circuit, publics, witness, Value, Case, numbers, answer, atPoint, _&_}
 use Rattle.opening.specs.Opening.{polynomialOf, evaluationsOf, mixtureOf, openingOf, openingVerdict}
