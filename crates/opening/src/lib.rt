@@ -158,22 +158,22 @@ pub fn check_opening<'a>(
         scratch,
     );
     let number = answer.number;
-    if number == 0 {
-        let verdict = judge(
-            p,
-            n,
-            prepared,
-            transcript,
-            list,
-            evaluations,
-            opening,
-            challenges,
-            scratch,
-        );
-        return PointAnswer { answer, verdict };
+    if number != 0 {
+        return PointAnswer {
+            answer,
+            verdict: Judged::None,
+        };
     }
-    PointAnswer {
-        answer,
-        verdict: Judged::None,
-    }
+    let verdict = judge(
+        p,
+        n,
+        prepared,
+        transcript,
+        list,
+        evaluations,
+        opening,
+        challenges,
+        scratch,
+    );
+    PointAnswer { answer, verdict }
 }
