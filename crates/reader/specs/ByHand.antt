@@ -6,15 +6,17 @@
 -- Assumes nothing.
 use mathlib.Core.Path.{_≡_, refl}
 use mathlib.Core.List.{List, [], _∷_, _++_}
-use Prim.Native.Nat.{ℕ, _+_}
+use Prim.Native.Nat.{ℕ, _+_, _%_, _^_}
 use Rattle.algebra.specs.Lists.{tab, All}
 use Rattle.algebra.specs.Modular.{powF, first, inverse}
-use Rattle.algebra.specs.Polynomial.{addP, mulP, dilate, reduced, remainderVanishing}
+use Rattle.algebra.specs.Polynomial.{eval, addP, scaleP, mulP, linear, dilate, reduced, remainderVanishing}
 use Rattle.field.specs.Fields.{generator, root, point, multiplier, tag}
 use Rattle.transform.specs.Transform.{interpolation}
 use Rattle.circuit.specs.Circuit.{lentWitness, permutation}
 use Rattle.protocol.specs.Protocol.{wiredTag, rowN, rowD, rowZ, polyN, polyD, polyL, gatePart, stepPart, startPart, polyF, preparedPoly, prepared, wiresOf, zOf}
 use Rattle.protocol.specs.Worked.{circuit, publics, witness, Case, number, numbers, _&_}
+use Rattle.opening.specs.Opening.{polynomialOf, less, named, evaluationsOf, mixtureOf}
+use Rattle.opening.specs.Worked as opened
 
 abbrev pre : ℕ → List ℕ
 pre = preparedPoly 17 2 circuit
@@ -37,6 +39,15 @@ lower c = addP (addP (wire c) (pre (5 + c))) (1 ∷ [])
 
 abbrev F : List ℕ
 F = polyF 17 2 pre wire x z 1 1 2
+
+-- the opening of a, b, c, z and t at 2, with m = 3: each with its value taken off, and the sum of these, times the powers of 3
+abbrev shifted : ℕ → List ℕ
+shifted i =
+    let f : List ℕ = named 17 2 opened.prepared opened.transcript opened.five i in
+    less 17 f (eval f 2)
+
+abbrev mixture : List ℕ
+mixture = mixtureOf 17 2 opened.prepared opened.transcript opened.five (evaluationsOf 17 2 opened.prepared opened.transcript opened.five 2) 3
 
 abbrev pub table : List Case
 table =
@@ -63,8 +74,16 @@ table =
     ∷ record { what = "(z - 1) × L"; is = numbers (reduced 17 3 (startPart 17 2 z)); should = numbers (16 ∷ 0 ∷ 1 ∷ []) }
     ∷ record { what = "F"; is = numbers (reduced 17 5 F); should = numbers (8 ∷ 5 ∷ 11 ∷ 12 ∷ 15 ∷ []) }
     ∷ record { what = "the remainder"; is = numbers (reduced 17 2 (remainderVanishing 2 3 F)); should = numbers (0 ∷ 0 ∷ []) }
+    ∷ record { what = "a, b, c, z, each less its value at 2"; is = numbers (reduced 17 2 (shifted 0) ++ (reduced 17 2 (shifted 1) ++ (reduced 17 2 (shifted 2) ++ reduced 17 2 (shifted 3)))); should = numbers (4 ∷ 15 ∷ 3 ∷ 7 ∷ 6 ∷ 14 ∷ 13 ∷ 2 ∷ []) }
+    ∷ record { what = "t less its value at 2"; is = numbers (reduced 17 3 (shifted 4)); should = numbers (1 ∷ 12 ∷ 15 ∷ []) }
+    ∷ record { what = "powers of 3"; is = numbers (tab (λ i. 3 ^ i % 17) 5); should = numbers (1 ∷ 3 ∷ 9 ∷ 10 ∷ 13 ∷ []) }
+    ∷ record { what = "b, c, z times their powers"; is = numbers (reduced 17 2 (scaleP 3 (shifted 1)) ++ (reduced 17 2 (scaleP 9 (shifted 2)) ++ reduced 17 2 (scaleP 10 (shifted 3)))); should = numbers (9 ∷ 4 ∷ 3 ∷ 7 ∷ 11 ∷ 3 ∷ []) }
+    ∷ record { what = "t times its power"; is = numbers (reduced 17 3 (scaleP 13 (shifted 4))); should = numbers (13 ∷ 3 ∷ 8 ∷ []) }
+    ∷ record { what = "the mixture"; is = numbers (reduced 17 3 mixture); should = numbers (6 ∷ 15 ∷ 8 ∷ []) }
+    ∷ record { what = "the mixture at 2"; is = number (eval mixture 2 % 17); should = number 0 }
+    ∷ record { what = "(14 + 8X) × (X - 2)"; is = numbers (reduced 17 3 (mulP (linear 17 2) (14 ∷ 8 ∷ []))); should = numbers (6 ∷ 15 ∷ 8 ∷ []) }
     ∷ []
 
 pub by-hand : All (λ r. r .is ≡ r .should) table
-unfolding tab powF first inverse reduced remainderVanishing generator root point multiplier tag interpolation lentWitness permutation rowN rowD rowZ polyN polyD polyL gatePart stepPart startPart polyF prepared
-by-hand = refl & refl & refl & refl & refl & refl & refl & refl & refl & refl & refl & refl & refl & refl & refl & refl & refl & refl & refl & refl & refl & refl & refl & tt
+unfolding tab powF first inverse reduced remainderVanishing generator root point multiplier tag interpolation lentWitness permutation rowN rowD rowZ polyN polyD polyL gatePart stepPart startPart polyF prepared polynomialOf evaluationsOf mixtureOf
+by-hand = refl & refl & refl & refl & refl & refl & refl & refl & refl & refl & refl & refl & refl & refl & refl & refl & refl & refl & refl & refl & refl & refl & refl & refl & refl & refl & refl & refl & refl & refl & refl & tt
