@@ -82,8 +82,9 @@ table =
     ∷ record { what = "the mixture"; is = numbers (reduced 17 3 mixture); should = numbers (6 ∷ 15 ∷ 8 ∷ []) }
     ∷ record { what = "the mixture at 2"; is = number (eval mixture 2 % 17); should = number 0 }
     ∷ record { what = "(14 + 8X) × (X - 2)"; is = numbers (reduced 17 3 (mulP (linear 17 2) (14 ∷ 8 ∷ []))); should = numbers (6 ∷ 15 ∷ 8 ∷ []) }
+    ∷ record { what = "(15 + X) × (X - 2)"; is = numbers (reduced 17 3 (mulP (linear 17 2) (15 ∷ 1 ∷ []))); should = numbers (4 ∷ 13 ∷ 1 ∷ []) }
     ∷ []
 
 pub by-hand : All (λ r. r .is ≡ r .should) table
 unfolding tab powF first inverse reduced remainderVanishing generator root point multiplier tag interpolation lentWitness permutation rowN rowD rowZ polyN polyD polyL gatePart stepPart startPart polyF prepared polynomialOf evaluationsOf mixtureOf
-by-hand = refl & refl & refl & refl & refl & refl & refl & refl & refl & refl & refl & refl & refl & refl & refl & refl & refl & refl & refl & refl & refl & refl & refl & refl & refl & refl & refl & refl & refl & refl & refl & tt
+by-hand = refl & refl & refl & refl & refl & refl & refl & refl & refl & refl & refl & refl & refl & refl & refl & refl & refl & refl & refl & refl & refl & refl & refl & refl & refl & refl & refl & refl & refl & refl & refl & refl & tt
