@@ -21,6 +21,10 @@ static const uint32_t pair[GUPPYSPOON_CHECK_ROWS_CHALLENGES] = {1, 1};
 static const uint32_t three[GUPPYSPOON_PROVE_CHALLENGES] = {1, 1, 2};
 static const uint32_t four[GUPPYSPOON_CHECK_POINT_CHALLENGES] = {1, 1, 2, 2};
 static const uint32_t proof[GUPPYSPOON_TRANSCRIPT_LENGTH(N)] = {4, 15, 13, 7, 9, 14, 16, 2, 9, 12, 15};
+static const uint32_t list[] = {8, 9, 10, 11, 12};
+static const uint32_t point[GUPPYSPOON_OPEN_CHALLENGES] = {2, 3};
+static const uint32_t evaluated[] = {0, 10, 3, 3, 8};
+static const uint32_t opened[GUPPYSPOON_OPENING_LENGTH(N)] = {14, 8};
 static const char sheet[] = "17,2,0\n0,0,16,1,0,0,1,2\n1,1,16,0,0,2,2,3\n2,3,6\n6,6,12\n1,1,2,2\n";
 static const char printed[] = "a,4,15\nb,13,7\nc,9,14\nz,16,2\nt,9,12,15\naccept\n";
 
@@ -29,6 +33,8 @@ static uint32_t coefficients[N];
 static uint32_t positions[GUPPYSPOON_POSITIONS_LENGTH(N)];
 static uint32_t prepared[GUPPYSPOON_PREPARED_LENGTH(N)];
 static uint32_t transcript[GUPPYSPOON_TRANSCRIPT_LENGTH(N)];
+static uint32_t evaluations[GUPPYSPOON_LIST_MOST_LENGTH + 1];
+static uint32_t opening[GUPPYSPOON_OPENING_LENGTH(N)];
 static uint32_t scratch[GUPPYSPOON_SCRATCH_LENGTH(N)];
 static uint32_t sheet_selectors[GUPPYSPOON_SHEET_SELECTORS_LENGTH];
 static uint32_t sheet_labels[GUPPYSPOON_SHEET_LABELS_LENGTH];
@@ -75,6 +81,18 @@ static void check_point(uint32_t l, const uint32_t *lent)
     guppyspoon_check_point(P, N, l, publics, L, LENT(prepared), lent, GUPPYSPOON_TRANSCRIPT_LENGTH(N), LENT(four), LENT(scratch), LENT(answer));
 }
 
+static void open(const uint32_t *numbers, size_t length)
+{
+    guppyspoon_open(P, N, LENT(prepared), LENT(proof), numbers, length, evaluations, length, LENT(opening), LENT(point), LENT(scratch),
+                    LENT(answer));
+}
+
+static void check_opening(const uint32_t *claimed)
+{
+    guppyspoon_check_opening(P, N, LENT(prepared), LENT(proof), LENT(list), claimed, sizeof list / sizeof *list, LENT(opened), point,
+                             GUPPYSPOON_CHECK_OPENING_CHALLENGES, LENT(scratch), LENT(answer));
+}
+
 static void read(const uint8_t *bytes, size_t length)
 {
     guppyspoon_read(bytes, length, LENT(sheet_selectors), LENT(sheet_labels), LENT(sheet_witness), LENT(sheet_publics), LENT(sheet_challenges),
@@ -98,6 +116,10 @@ static void every_call(void)
     prove(witness, three);
     EXPECT("prove", GUPPYSPOON_PROVE_WORDS, GUPPYSPOON_ACCEPTED, 0);
     expect_that("the transcript", memcmp(transcript, proof, sizeof proof) == 0);
+    open(LENT(list));
+    EXPECT("open", GUPPYSPOON_OPEN_WORDS, GUPPYSPOON_ACCEPTED, 0);
+    expect_that("the evaluations", memcmp(evaluations, evaluated, sizeof evaluated) == 0);
+    expect_that("the opening polynomial", memcmp(opening, opened, sizeof opened) == 0);
     read(SHEET(sheet));
     EXPECT("read", GUPPYSPOON_READ_WORDS, GUPPYSPOON_ACCEPTED, 0, P, N, L);
     expect_that("the sheet's witness", memcmp(sheet_witness, witness, sizeof witness) == 0);
@@ -106,7 +128,7 @@ static void every_call(void)
     expect_that("the text", memcmp(text, printed, sizeof printed) == 0);
 }
 
-/* check_rows and check_point: each verdict. The prepared circuit is that of every_call. */
+/* check_rows, check_point and check_opening: each verdict. The prepared circuit is that of every_call. */
 static void every_verdict(void)
 {
     check_rows(witness, z);
@@ -125,6 +147,12 @@ static void every_verdict(void)
     EXPECT("reject", GUPPYSPOON_CHECK_POINT_WORDS, GUPPYSPOON_ACCEPTED, 0, GUPPYSPOON_POINT_REJECT);
     check_point(N + 1, proof);
     EXPECT("no point verdict", GUPPYSPOON_CHECK_POINT_WORDS, GUPPYSPOON_BAD_PUBLICS, 0, GUPPYSPOON_POINT_NONE);
+    check_opening(evaluated);
+    EXPECT("opening accepted", GUPPYSPOON_CHECK_OPENING_WORDS, GUPPYSPOON_ACCEPTED, 0, GUPPYSPOON_POINT_ACCEPT);
+    check_opening((const uint32_t[]){0, 10, 3, 3, 9});
+    EXPECT("opening rejected", GUPPYSPOON_CHECK_OPENING_WORDS, GUPPYSPOON_ACCEPTED, 0, GUPPYSPOON_POINT_REJECT);
+    check_opening((const uint32_t[]){0, 10, 3, 3, P});
+    EXPECT("no opening verdict", GUPPYSPOON_CHECK_OPENING_WORDS, GUPPYSPOON_BAD_ELEMENT, 31, GUPPYSPOON_POINT_NONE);
 }
 
 /* The reasons that no verdict above came with. */
@@ -148,6 +176,10 @@ static void every_reason(void)
     EXPECT("reason 10", GUPPYSPOON_PROVE_WORDS, GUPPYSPOON_COPY_FAILS, 3);
     prove(witness, (const uint32_t[]){1, 2, 2});
     EXPECT("reason 11", GUPPYSPOON_PROVE_WORDS, GUPPYSPOON_ZERO_DENOMINATOR, 1);
+    open(list, 0);
+    EXPECT("reason 12", GUPPYSPOON_OPEN_WORDS, GUPPYSPOON_BAD_LIST, 0);
+    open((const uint32_t[]){12, 13}, 2);
+    EXPECT("reason 13", GUPPYSPOON_OPEN_WORDS, GUPPYSPOON_BAD_NUMBER, 1);
 }
 
 /* So many rows of a prime are taken, and twice as many are not. Only labels are lent: all zeros. */
@@ -184,6 +216,16 @@ static void most_bytes(void)
     EXPECT("most bytes", GUPPYSPOON_READ_WORDS, GUPPYSPOON_BAD_START, 0, 0, 0, 0);
 }
 
+/* So many numbers of polynomials are taken, and one more is not. */
+static void most_list(void)
+{
+    static const uint32_t zeros[GUPPYSPOON_LIST_MOST_LENGTH + 1];
+    open(zeros, GUPPYSPOON_LIST_MOST_LENGTH);
+    EXPECT("longest list", GUPPYSPOON_OPEN_WORDS, GUPPYSPOON_ACCEPTED, 0);
+    open(zeros, GUPPYSPOON_LIST_MOST_LENGTH + 1);
+    EXPECT("longest list", GUPPYSPOON_OPEN_WORDS, GUPPYSPOON_BAD_LIST, 0);
+}
+
 int main(void)
 {
     for (size_t i = 0; i < ROOM; i++)
@@ -196,5 +238,6 @@ int main(void)
     most_rows("most rows of 2013265921", LARGEST, GUPPYSPOON_MOST_ROWS_2013265921);
     most_rows_sheet();
     most_bytes();
+    most_list();
     return differences > 0;
 }

@@ -40,12 +40,18 @@ extern "C" {
 #define GUPPYSPOON_WITNESS_LENGTH(n) (3 * (size_t)(n))        /* a, b, c */
 #define GUPPYSPOON_PREPARED_LENGTH(n) (8 * (size_t)(n))       /* qL, qR, qO, qM, qC, then the permuted tags of a, b, c; polynomials */
 #define GUPPYSPOON_TRANSCRIPT_LENGTH(n) (7 * (size_t)(n) - 3) /* a, b, c, z of n coefficients each, then t of 3n - 3 */
+#define GUPPYSPOON_OPENING_LENGTH(n) (3 * (size_t)(n) - 4)    /* one polynomial; n is 2 or more */
 #define GUPPYSPOON_SCRATCH_LENGTH(n) (16 * (size_t)(n))
 
+/* The most numbers of a list of polynomials. The polynomials are numbered 0 to 7 (prepared, in its order), 8 to 10 (a, b, c), 11 (z), 12 (t). */
+#define GUPPYSPOON_LIST_MOST_LENGTH 13
+
 /* The challenges of each call that has them. */
-#define GUPPYSPOON_CHECK_ROWS_CHALLENGES 2  /* beta, gamma */
-#define GUPPYSPOON_PROVE_CHALLENGES 3       /* beta, gamma, alpha */
-#define GUPPYSPOON_CHECK_POINT_CHALLENGES 4 /* beta, gamma, alpha, zeta */
+#define GUPPYSPOON_CHECK_ROWS_CHALLENGES 2    /* beta, gamma */
+#define GUPPYSPOON_PROVE_CHALLENGES 3         /* beta, gamma, alpha */
+#define GUPPYSPOON_CHECK_POINT_CHALLENGES 4   /* beta, gamma, alpha, zeta */
+#define GUPPYSPOON_OPEN_CHALLENGES 2          /* the point, the mixing number m */
+#define GUPPYSPOON_CHECK_OPENING_CHALLENGES 2 /* the same */
 
 /* Sheets: the most bytes of one, the bytes of a deposit's text, and the words of the buffers that a sheet is read into. */
 #define GUPPYSPOON_SHEET_MOST_BYTES 65536
@@ -64,6 +70,8 @@ extern "C" {
 #define GUPPYSPOON_PREPARE_WORDS 2
 #define GUPPYSPOON_CHECK_ROWS_WORDS 4
 #define GUPPYSPOON_CHECK_POINT_WORDS 3
+#define GUPPYSPOON_OPEN_WORDS 2
+#define GUPPYSPOON_CHECK_OPENING_WORDS 3
 #define GUPPYSPOON_PROVE_WORDS 2
 #define GUPPYSPOON_READ_WORDS 5
 #define GUPPYSPOON_DEPOSIT_WORDS 3
@@ -77,11 +85,14 @@ extern "C" {
 #define GUPPYSPOON_PREPARE_STACK 32768
 #define GUPPYSPOON_CHECK_ROWS_STACK 81920
 #define GUPPYSPOON_CHECK_POINT_STACK 24576
+#define GUPPYSPOON_OPEN_STACK 8192
+#define GUPPYSPOON_CHECK_OPENING_STACK 8192
 #define GUPPYSPOON_PROVE_STACK 131072
 #define GUPPYSPOON_READ_STACK 32768
 #define GUPPYSPOON_DEPOSIT_STACK 180224
 
-/* Word 0 of an answer: accepted, or the first reason in this order that applies. Word 1 is the detail, 0 unless named here. */
+/* Word 0 of an answer: accepted, or the first of the call's reasons, in the order in which they are named at the call, that applies. Word 1 is the
+ * detail, 0 unless named here. */
 enum guppyspoon_reason {
     GUPPYSPOON_ACCEPTED = 0,
     GUPPYSPOON_BAD_START = 1,         /* the sheet is too long, or its line 1 is missing or out of form */
@@ -94,7 +105,9 @@ enum guppyspoon_reason {
     GUPPYSPOON_BAD_LABEL = 8,         /* a label is 3n or more; detail: the lowest such position */
     GUPPYSPOON_GATE_FAILS = 9,        /* a gate fails; detail: the lowest row */
     GUPPYSPOON_COPY_FAILS = 10,       /* a witness value differs from that of a lower position with its label; detail: the lowest such position */
-    GUPPYSPOON_ZERO_DENOMINATOR = 11  /* a factor of a denominator of z is 0; detail: the lowest row */
+    GUPPYSPOON_ZERO_DENOMINATOR = 11, /* a factor of a denominator of z is 0; detail: the lowest row */
+    GUPPYSPOON_BAD_LIST = 12,         /* a list of polynomials is empty or longer than 13 */
+    GUPPYSPOON_BAD_NUMBER = 13        /* the number of a polynomial is above 12; detail: the first such place in the list, from 0 */
 };
 
 /* Word 2 of the answer of guppyspoon_check_rows. */
@@ -106,7 +119,7 @@ enum guppyspoon_row_verdict {
     GUPPYSPOON_ROWS_STEP = 4   /* the step of z from a row to the next fails; row n - 1 leads to row 0 */
 };
 
-/* Word 2 of the answer of guppyspoon_check_point. */
+/* Word 2 of the answers of guppyspoon_check_point and guppyspoon_check_opening. */
 enum guppyspoon_point_verdict {
     GUPPYSPOON_POINT_NONE = 0, /* the call was refused */
     GUPPYSPOON_POINT_ACCEPT = 1,
@@ -177,6 +190,33 @@ void guppyspoon_check_rows(uint32_t p, uint32_t n, uint32_t l, const uint32_t *s
 void guppyspoon_check_point(uint32_t p, uint32_t n, uint32_t l, const uint32_t *publics, size_t publics_length, const uint32_t *prepared,
                             size_t prepared_length, const uint32_t *transcript, size_t transcript_length, const uint32_t *challenges,
                             size_t challenges_length, uint32_t *scratch, size_t scratch_length, uint32_t *answer, size_t answer_length);
+
+/* Opens polynomials at a point: for a list of polynomial numbers (repeats are allowed), f_i being the polynomial whose number stands at place i,
+ * writes the evaluations s_i = f_i(point), and the opening polynomial: the sum over i from 0 of m^i * (f_i - s_i), over X - point. m^0 is 1, also
+ * for m = 0.
+ *
+ * Buffers: 1 prepared, 8n; 2 transcript, 7n - 3; 3 list, any number (none, or above 13, gives reason 12); 4 evaluations, as many as the list has,
+ *   written; 5 opening, 3n - 4, written; 6 challenges (the point, m), 2; 7 scratch, 16n, written.
+ * Reasons: 2, 3, 6, 12, 13, 7 (prepared, transcript, challenges end to end).
+ * Answer: number, detail.
+ */
+void guppyspoon_open(uint32_t p, uint32_t n, const uint32_t *prepared, size_t prepared_length, const uint32_t *transcript,
+                     size_t transcript_length, const uint32_t *list, size_t list_length, uint32_t *evaluations, size_t evaluations_length,
+                     uint32_t *opening, size_t opening_length, const uint32_t *challenges, size_t challenges_length, uint32_t *scratch,
+                     size_t scratch_length, uint32_t *answer, size_t answer_length);
+
+/* Checks such an opening: whether the sum over i of m^i * (f_i - s_i), with the lent evaluations s_i, equals opening * (X - point) in every
+ * coefficient.
+ *
+ * Buffers: 1 prepared, 8n; 2 transcript, 7n - 3; 3 list, any number (none, or above 13, gives reason 12); 4 evaluations, as many as the list has;
+ *   5 opening, 3n - 4; 6 challenges (the point, m), 2; 7 scratch, 16n, written.
+ * Reasons: 2, 3, 6, 12, 13, 7 (prepared, transcript, evaluations, opening, challenges end to end).
+ * Answer: number, detail, the verdict (enum guppyspoon_point_verdict).
+ */
+void guppyspoon_check_opening(uint32_t p, uint32_t n, const uint32_t *prepared, size_t prepared_length, const uint32_t *transcript,
+                              size_t transcript_length, const uint32_t *list, size_t list_length, const uint32_t *evaluations,
+                              size_t evaluations_length, const uint32_t *opening, size_t opening_length, const uint32_t *challenges,
+                              size_t challenges_length, uint32_t *scratch, size_t scratch_length, uint32_t *answer, size_t answer_length);
 
 /* The prover: the transcript a, b, c, z, t of a witness that satisfies its circuit.
  *

@@ -28,6 +28,16 @@ extern "C" {
         transcript: *const u32, transcript_length: usize, challenges: *const u32, challenges_length: usize, scratch: *mut u32,
         scratch_length: usize, answer: *mut u32, answer_length: usize,
     );
+    fn guppyspoon_open(
+        p: u32, n: u32, prepared: *const u32, prepared_length: usize, transcript: *const u32, transcript_length: usize, list: *const u32,
+        list_length: usize, evaluations: *mut u32, evaluations_length: usize, opening: *mut u32, opening_length: usize,
+        challenges: *const u32, challenges_length: usize, scratch: *mut u32, scratch_length: usize, answer: *mut u32, answer_length: usize,
+    );
+    fn guppyspoon_check_opening(
+        p: u32, n: u32, prepared: *const u32, prepared_length: usize, transcript: *const u32, transcript_length: usize, list: *const u32,
+        list_length: usize, evaluations: *const u32, evaluations_length: usize, opening: *const u32, opening_length: usize,
+        challenges: *const u32, challenges_length: usize, scratch: *mut u32, scratch_length: usize, answer: *mut u32, answer_length: usize,
+    );
     fn guppyspoon_prove(
         p: u32, n: u32, l: u32, selectors: *const u32, selectors_length: usize, labels: *const u32, labels_length: usize,
         witness: *const u32, witness_length: usize, publics: *const u32, publics_length: usize, transcript: *mut u32,
@@ -52,6 +62,8 @@ pub fn address(name: &str) -> *const () {
         "prepare" => guppyspoon_prepare as *const (),
         "check_rows" => guppyspoon_check_rows as *const (),
         "check_point" => guppyspoon_check_point as *const (),
+        "open" => guppyspoon_open as *const (),
+        "check_opening" => guppyspoon_check_opening as *const (),
         "prove" => guppyspoon_prove as *const (),
         "read" => guppyspoon_read as *const (),
         "deposit" => guppyspoon_deposit as *const (),
@@ -175,6 +187,62 @@ pub fn check_point(
             prepared.len(),
             transcript.as_ptr(),
             transcript.len(),
+            challenges.as_ptr(),
+            challenges.len(),
+            scratch.as_mut_ptr(),
+            scratch.len(),
+            answer.as_mut_ptr(),
+            answer.len(),
+        )
+    }
+}
+
+pub fn open(
+    p: u32, n: u32, prepared: &[u32], transcript: &[u32], list: &[u32], evaluations: &mut [u32], opening: &mut [u32], challenges: &[u32],
+    scratch: &mut [u32], answer: &mut [u32],
+) {
+    unsafe {
+        guppyspoon_open(
+            p,
+            n,
+            prepared.as_ptr(),
+            prepared.len(),
+            transcript.as_ptr(),
+            transcript.len(),
+            list.as_ptr(),
+            list.len(),
+            evaluations.as_mut_ptr(),
+            evaluations.len(),
+            opening.as_mut_ptr(),
+            opening.len(),
+            challenges.as_ptr(),
+            challenges.len(),
+            scratch.as_mut_ptr(),
+            scratch.len(),
+            answer.as_mut_ptr(),
+            answer.len(),
+        )
+    }
+}
+
+pub fn check_opening(
+    p: u32, n: u32, prepared: &[u32], transcript: &[u32], list: &[u32], evaluations: &[u32], opening: &[u32], challenges: &[u32],
+    scratch: &mut [u32], answer: &mut [u32],
+) {
+    unsafe {
+        guppyspoon_check_opening(
+            p,
+            n,
+            prepared.as_ptr(),
+            prepared.len(),
+            transcript.as_ptr(),
+            transcript.len(),
+            list.as_ptr(),
+            list.len(),
+            evaluations.as_ptr(),
+            evaluations.len(),
+            opening.as_ptr(),
+            opening.len(),
             challenges.as_ptr(),
             challenges.len(),
             scratch.as_mut_ptr(),

@@ -1,6 +1,8 @@
-// Cases: circuits that are filled rightly, and damage of every kind that document 01 has a reason for.
+// Cases: circuits that are filled rightly, and damage of every kind that documents 01 and 02 have a reason for.
 use crate::kinds::{plainly, Case, Kind, Role};
 use crate::numbers::*;
+use crate::opening_cases::{relist, Opening};
+use crate::openings::POLYNOMIALS;
 use crate::plain;
 use crate::random::Random;
 use crate::rows;
@@ -139,6 +141,18 @@ impl Circuit {
         transcript
     }
 
+    // All polynomials of the prepared circuit and the transcript, at zeta, mixed with alpha.
+    fn opening(&self) -> Opening {
+        Opening {
+            p: self.p,
+            n: self.n,
+            prepared: self.prepared(),
+            transcript: self.transcript(),
+            list: (0..POLYNOMIALS).collect(),
+            challenges: [self.challenges[3], self.challenges[2]],
+        }
+    }
+
     // The call of a kind on this circuit. Buffers that are only written hold anything.
     pub fn case(&self, r: &mut Random, kind: Kind) -> Case {
         let (p, n) = (self.p, self.n as usize);
@@ -155,6 +169,7 @@ impl Circuit {
             Kind::Prepare => vec![selectors, labels, r.words(8 * n), scratch],
             Kind::CheckRows => vec![selectors, labels, contents, publics, self.z(), vec![beta, gamma]],
             Kind::CheckPoint => vec![publics, self.prepared(), self.transcript(), self.challenges.to_vec(), scratch],
+            Kind::Open | Kind::CheckOpening => return self.opening().case(r, kind),
             Kind::Prove => vec![selectors, labels, contents, publics, r.words(7 * n - 3), self.challenges[..3].to_vec(), scratch],
         };
         let n = if kind == Kind::Inverse { r.element(p) } else { self.n };
@@ -162,13 +177,18 @@ impl Circuit {
     }
 }
 
-// Another element somewhere in what a check reads: an honest input that is honest no longer.
+// Another element or polynomial somewhere in what a check reads: an honest input that is honest no longer.
 pub fn disturb(r: &mut Random, case: &mut Case) {
     let p = case.p;
     let k = r.below(case.buffers.len());
     let length = case.buffers[k].len();
-    if case.kind.roles()[k] == Role::Elements && length > 0 {
-        case.buffers[k][r.below(length)] = r.element(p);
+    let bound = match case.kind.roles()[k] {
+        Role::Elements => p,
+        Role::Polynomials => POLYNOMIALS,
+        Role::Labels | Role::Written => return,
+    };
+    if length > 0 {
+        case.buffers[k][r.below(length)] = r.element(bound);
     }
 }
 
@@ -190,7 +210,7 @@ fn resize(r: &mut Random, buffer: &mut Vec<u32>, p: u32) {
     buffer.resize_with(new, || r.element(p.max(1)));
 }
 
-// One change that document 01 has a reason for, or nearly has.
+// One change that the documents have a reason for, or nearly have.
 pub fn damage(r: &mut Random, case: &mut Case) {
     let (p, n, l) = (case.p, case.n, case.l);
     let kind = case.kind;
@@ -226,6 +246,7 @@ pub fn damage(r: &mut Random, case: &mut Case) {
             ])
         }
         2 if kind.has_l() => case.l = r.pick(&[0, n, n.wrapping_add(1), l.wrapping_add(1), l.wrapping_sub(1), u32::MAX]),
+        2 if kind.has_list() => relist(r, case),
         3 | 4 => resize(r, &mut case.buffers[k], p),
         _ if case.buffers[k].is_empty() => {}
         _ => {
@@ -238,6 +259,7 @@ pub fn damage(r: &mut Random, case: &mut Case) {
             let bound = match kind.roles()[k] {
                 Role::Elements => p,
                 Role::Labels => n.wrapping_mul(3),
+                Role::Polynomials => POLYNOMIALS,
                 Role::Written => return,
             };
             case.buffers[k][at] = r.pick(&[bound, bound, bound.wrapping_add(1), u32::MAX, bound.wrapping_sub(1)]);

@@ -2,6 +2,7 @@
 use crate::cases::{at_a_row, damage, disturb, Circuit};
 use crate::kinds::{plainly, proved, Case, Kind, KINDS};
 use crate::numbers::{field, LARGEST, PRIMES};
+use crate::opening_cases::{self, mislead, Opening};
 use crate::random::Random;
 use std::collections::BTreeMap;
 
@@ -63,7 +64,7 @@ fn try_case(r: &mut Random, case: &Case, counts: &mut Counts) -> usize {
     let mut lent: Vec<&mut [u32]> = rest.iter_mut().map(inner).collect();
     proved(case, &mut lent, inner(last));
 
-    let verdict = if case.kind == Kind::Inverse { 0 } else { words.get(2).copied().unwrap_or(0) };
+    let verdict = if case.kind.checks() { words[2] } else { 0 };
     *counts.entry((words[0], verdict)).or_insert(0) += 1;
     match first_difference(&ours, &theirs) {
         None => 0,
@@ -74,17 +75,26 @@ fn try_case(r: &mut Random, case: &Case, counts: &mut Counts) -> usize {
     }
 }
 
-// A case of a kind: half of them as they should be, the others damaged once or more.
-pub fn make(r: &mut Random, kind: Kind, p: u32, n: u32) -> Case {
+// A list of polynomials, or a circuit, a third of them with a fault of the filling, lent as it should be.
+fn lent(r: &mut Random, kind: Kind, p: u32, n: u32) -> Case {
+    if kind.has_list() {
+        return Opening::new(r, p, n).case(r, kind);
+    }
     let mut circuit = Circuit::new(r, p, n);
     if r.once_in(3) {
         circuit.damage(r);
     }
-    let mut case = circuit.case(r, kind);
+    circuit.case(r, kind)
+}
+
+// A case of a kind: half of them as they should be, the others damaged once or more.
+pub fn make(r: &mut Random, kind: Kind, p: u32, n: u32) -> Case {
+    let mut case = lent(r, kind, p, n);
     if r.once_in(5) {
         at_a_row(r, &mut case);
+        mislead(r, &mut case);
     }
-    if matches!(kind, Kind::CheckRows | Kind::CheckPoint) && r.once_in(3) {
+    if kind.checks() && r.once_in(3) {
         disturb(r, &mut case);
     }
     if r.once_in(2) {
@@ -105,31 +115,35 @@ fn how_many(kind: Kind, n: usize) -> usize {
 }
 
 // The inverse of every element of the small fields, and past them.
-fn all_inverses(r: &mut Random, counts: &mut Counts) -> (usize, usize) {
-    let mut tried = 0;
-    let mut differences = 0;
-    for p in (0..120).chain([LARGEST - 1, LARGEST, LARGEST + 1, u32::MAX]) {
-        for x in 0..130 {
-            let case = Case { kind: Kind::Inverse, p, n: x, l: 0, buffers: vec![] };
-            differences += try_case(r, &case, counts);
-            tried += 1;
-        }
+fn all_inverses() -> Vec<Case> {
+    let primes = (0..120).chain([LARGEST - 1, LARGEST, LARGEST + 1, u32::MAX]);
+    primes.flat_map(|p| (0..130).map(move |x| Case { kind: Kind::Inverse, p, n: x, l: 0, buffers: vec![] })).collect()
+}
+
+// The cases of a kind that are not left to chance.
+fn all_small(r: &mut Random, kind: Kind) -> Vec<Case> {
+    match kind {
+        Kind::Inverse => all_inverses(),
+        Kind::Open | Kind::CheckOpening => opening_cases::all_small(r, kind),
+        _ => vec![],
     }
-    (tried, differences)
+}
+
+// The name of a check's verdict; none where there is no verdict.
+fn verdict_name(kind: Kind, verdict: u32) -> Option<&'static str> {
+    let names: &[&str] = match kind {
+        Kind::CheckRows => &["pass", "gate", "start", "step"],
+        Kind::CheckPoint | Kind::CheckOpening => &["accept", "reject"],
+        _ => &[],
+    };
+    names.get(verdict.checked_sub(1)? as usize).copied()
 }
 
 fn show(kind: Kind, tried: usize, differences: usize, counts: &Counts) {
     let answers: Vec<String> = counts
         .iter()
         .map(|(&(number, verdict), times)| {
-            let name = match (kind, verdict) {
-                (Kind::CheckRows, 1) | (Kind::CheckPoint, 1) => ["pass", "accept"][(kind == Kind::CheckPoint) as usize].to_string(),
-                (Kind::CheckRows, 2) => "gate".to_string(),
-                (Kind::CheckPoint, 2) => "reject".to_string(),
-                (Kind::CheckRows, 3) => "start".to_string(),
-                (Kind::CheckRows, 4) => "step".to_string(),
-                _ => number.to_string(),
-            };
+            let name = verdict_name(kind, verdict).map_or(number.to_string(), str::to_string);
             format!("{name}: {times}")
         })
         .collect();
@@ -144,8 +158,9 @@ pub fn run(times: usize) -> usize {
     for kind in KINDS {
         let mut counts = Counts::new();
         let (mut tried, mut differences) = (0, 0);
-        if kind == Kind::Inverse {
-            (tried, differences) = all_inverses(&mut r, &mut counts);
+        for case in all_small(&mut r, kind) {
+            differences += try_case(&mut r, &case, &mut counts);
+            tried += 1;
         }
         for p in PRIMES {
             let (_, most) = field(p).unwrap();

@@ -52,9 +52,9 @@ fn c_of_rust(parameter: &str) -> Vec<String> {
     vec![format!("{front}{name}")]
 }
 
-// Of crates/exports/src/lib.rt.
+// Of crates/exports/src/lib.rt. C has no lifetimes.
 pub fn of_rattle(text: &str) -> Vec<Declaration> {
-    all(text, "fn", c_of_rattle)
+    all(&text.replace("<'a>", "").replace("&'a ", "&"), "fn", c_of_rattle)
 }
 
 // Of bench/src/calls.rs.

@@ -1,4 +1,4 @@
-// The sheet of document 01 with the answers that it gives, on both sides.
+// The sheet of document 01 with the answers that it gives, and openings of its polynomials with answers worked out by hand, on both sides.
 use crate::kinds::{plainly, proved, Case, Kind};
 use crate::{calls, plain, sheets};
 
@@ -38,6 +38,16 @@ fn prove(name: &str, contents: &[u32], challenges: &[u32], words: &[u32], due: &
 
 fn rows(name: &str, contents: &[u32], z: &[u32], challenges: &[u32], words: &[u32]) -> usize {
     expect(name, Kind::CheckRows, 0, &[&SELECTORS, &LABELS, contents, &[], z, challenges], words, 4, z)
+}
+
+// An opening of the sheet's polynomials: both results, and the check accepts them.
+fn opening(name: &str, prepared: &[u32], list: &[u32], challenges: &[u32], evaluations: &[u32], due: &[u32]) -> usize {
+    let untouched = vec![7; list.len()];
+    let blank: [&[u32]; 7] = [prepared, &TRANSCRIPT, list, &untouched, &[7; 2], challenges, &[7; 32]];
+    let right: [&[u32]; 7] = [prepared, &TRANSCRIPT, list, evaluations, due, challenges, &[7; 32]];
+    expect(name, Kind::Open, 0, &blank, &[0, 0], 3, evaluations)
+        + expect(name, Kind::Open, 0, &blank, &[0, 0], 4, due)
+        + expect(name, Kind::CheckOpening, 0, &right, &[0, 0, 1], 6, &[0; 32])
 }
 
 // With row 1 as 5,7,12, beta 1 and gamma 1, no z passes.
@@ -114,6 +124,8 @@ pub fn run() -> usize {
     plain::prepare(17, 2, &SELECTORS, &LABELS, &mut prepared, &mut [7; 32]);
     off += expect("prepared", Kind::Prepare, 0, &[&SELECTORS, &LABELS, &[7; 16], &[7; 32]], &[0, 0], 2, &prepared);
     off += expect("accept", Kind::CheckPoint, 0, &[&[], &prepared, &TRANSCRIPT, &[1, 1, 2, 2], &[7; 32]], &[0, 0, 1], 4, &[0; 32]);
+    off += opening("a, b, c, z and t at 2, m 3", &prepared, &[8, 9, 10, 11, 12], &[2, 3], &[0, 10, 3, 3, 8], &[14, 8]);
+    off += opening("z twice at row 1's point, m 1", &prepared, &[11, 11], &[16, 1], &[14, 14], &[4, 0]);
     off += deposits();
     println!("the sheet of document 01: {off} differences");
     off

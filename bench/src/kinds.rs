@@ -1,5 +1,5 @@
 // The calls by name, the buffers of each in document 01's order, and how a case is lent to either side.
-use crate::{calls, plain};
+use crate::{calls, openings, plain};
 
 #[derive(Clone, Copy, PartialEq, Debug)]
 pub enum Kind {
@@ -10,17 +10,30 @@ pub enum Kind {
     Prepare,
     CheckRows,
     CheckPoint,
+    Open,
+    CheckOpening,
     Prove,
 }
 
-pub const KINDS: [Kind; 8] =
-    [Kind::Inverse, Kind::Evaluate, Kind::Interpolate, Kind::Permutation, Kind::Prepare, Kind::CheckRows, Kind::CheckPoint, Kind::Prove];
+pub const KINDS: [Kind; 10] = [
+    Kind::Inverse,
+    Kind::Evaluate,
+    Kind::Interpolate,
+    Kind::Permutation,
+    Kind::Prepare,
+    Kind::CheckRows,
+    Kind::CheckPoint,
+    Kind::Open,
+    Kind::CheckOpening,
+    Kind::Prove,
+];
 
-// What a buffer holds: elements or labels that are read, or numbers that are only written.
+// What a buffer holds: elements, labels or the numbers of polynomials that are read, or numbers that are only written.
 #[derive(Clone, Copy, PartialEq, Debug)]
 pub enum Role {
     Elements,
     Labels,
+    Polynomials,
     Written,
 }
 
@@ -34,6 +47,8 @@ impl Kind {
             Kind::Prepare => &[Elements, Labels, Written, Written],
             Kind::CheckRows => &[Elements, Labels, Elements, Elements, Elements, Elements],
             Kind::CheckPoint => &[Elements, Elements, Elements, Elements, Written],
+            Kind::Open => &[Elements, Elements, Polynomials, Written, Written, Elements, Written],
+            Kind::CheckOpening => &[Elements, Elements, Polynomials, Elements, Elements, Elements, Written],
             Kind::Prove => &[Elements, Labels, Elements, Elements, Written, Elements, Written],
         }
     }
@@ -41,6 +56,16 @@ impl Kind {
     // Whether the call is lent l.
     pub fn has_l(self) -> bool {
         matches!(self, Kind::CheckRows | Kind::CheckPoint | Kind::Prove)
+    }
+
+    // Whether the call is lent a list of polynomials.
+    pub fn has_list(self) -> bool {
+        matches!(self, Kind::Open | Kind::CheckOpening)
+    }
+
+    // Whether the call answers a verdict on what it is lent.
+    pub fn checks(self) -> bool {
+        matches!(self, Kind::CheckRows | Kind::CheckPoint | Kind::CheckOpening)
     }
 }
 
@@ -69,6 +94,12 @@ pub fn plainly(case: &Case, buffers: &mut [&mut [u32]]) -> Vec<u32> {
         (Kind::CheckPoint, [publics, prepared, transcript, challenges, scratch]) => {
             plain::check_point(p, n, l, publics, prepared, transcript, challenges, scratch).to_vec()
         }
+        (Kind::Open, [prepared, transcript, list, evaluations, opening, challenges, scratch]) => {
+            openings::open(p, n, prepared, transcript, list, evaluations, opening, challenges, scratch).to_vec()
+        }
+        (Kind::CheckOpening, [prepared, transcript, list, evaluations, opening, challenges, scratch]) => {
+            openings::check_opening(p, n, prepared, transcript, list, evaluations, opening, challenges, scratch).to_vec()
+        }
         (Kind::Prove, [selectors, labels, contents, publics, transcript, challenges, scratch]) => {
             plain::prove(p, n, l, selectors, labels, contents, publics, transcript, challenges, scratch).to_vec()
         }
@@ -90,6 +121,12 @@ pub fn proved(case: &Case, buffers: &mut [&mut [u32]], answer: &mut [u32]) {
         }
         (Kind::CheckPoint, [publics, prepared, transcript, challenges, scratch]) => {
             calls::check_point(p, n, l, publics, prepared, transcript, challenges, scratch, answer)
+        }
+        (Kind::Open, [prepared, transcript, list, evaluations, opening, challenges, scratch]) => {
+            calls::open(p, n, prepared, transcript, list, evaluations, opening, challenges, scratch, answer)
+        }
+        (Kind::CheckOpening, [prepared, transcript, list, evaluations, opening, challenges, scratch]) => {
+            calls::check_opening(p, n, prepared, transcript, list, evaluations, opening, challenges, scratch, answer)
         }
         (Kind::Prove, [selectors, labels, contents, publics, transcript, challenges, scratch]) => {
             calls::prove(p, n, l, selectors, labels, contents, publics, transcript, challenges, scratch, answer)

@@ -1,5 +1,5 @@
-// Compares the proved library with a plain implementation of document 01, holds the C header to the library, and measures stack and time. Run it
-// from the repository's root:
+// Compares the proved library with a plain implementation of document 01 and of the openings of document 02, holds the C header to the library, and
+// measures stack and time. Run it from the repository's root:
 //
 //     rt staticlib exports && cargo run --release --manifest-path bench/Cargo.toml
 //
@@ -24,6 +24,8 @@ mod header;
 mod kinds;
 mod measure;
 mod numbers;
+mod opening_cases;
+mod openings;
 mod plain;
 mod polynomials;
 mod random;

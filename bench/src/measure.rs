@@ -101,7 +101,16 @@ pub fn run() {
     println!("{:<12} {:>6} {:>12} {:>12} {:>8}", "call", "n", "proved", "plain", "ratio");
     for n in [64, 256, 1024] {
         let circuit = Circuit::proved(&mut r, LARGEST, n);
-        for kind in [Kind::Evaluate, Kind::Interpolate, Kind::Prepare, Kind::CheckRows, Kind::CheckPoint, Kind::Prove] {
+        for kind in [
+            Kind::Evaluate,
+            Kind::Interpolate,
+            Kind::Prepare,
+            Kind::CheckRows,
+            Kind::CheckPoint,
+            Kind::Open,
+            Kind::CheckOpening,
+            Kind::Prove,
+        ] {
             measure_case(&circuit.case(&mut r, kind));
         }
         if n <= MOST_ROWS {

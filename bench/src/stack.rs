@@ -133,6 +133,8 @@ fn name_of(kind: Kind) -> &'static str {
         Kind::Prepare => "prepare",
         Kind::CheckRows => "check_rows",
         Kind::CheckPoint => "check_point",
+        Kind::Open => "open",
+        Kind::CheckOpening => "check_opening",
         Kind::Prove => "prove",
     }
 }
@@ -158,7 +160,7 @@ fn most<T>(name: &str, first: &T, others: &[T], mut measure: impl FnMut(&T) -> (
 fn show(name: &str, rows: &str, bytes: usize) -> usize {
     let stack = format!("GUPPYSPOON_{}_STACK", name.to_uppercase());
     let said = constant(&stack);
-    println!("{name:<12} {rows:>6} {bytes:>9} {:>9}", said.map_or("nothing".to_string(), |bytes| bytes.to_string()));
+    println!("{name:<13} {rows:>6} {bytes:>9} {:>9}", said.map_or("nothing".to_string(), |bytes| bytes.to_string()));
     if said.is_some_and(|said| bytes + SPARE <= said) {
         return 0;
     }
@@ -196,7 +198,7 @@ pub fn run() -> usize {
     let mut r = Random::new(512);
     let mut meter = Meter { memory: vec![0; ROOM] };
     println!("\nstack, p = {LARGEST}, bytes: the most of the largest input and {FURTHER} or more others, and what the header says");
-    println!("{:<12} {:>6} {:>9} {:>9}", "call", "rows", "measured", "header");
+    println!("{:<13} {:>6} {:>9} {:>9}", "call", "rows", "measured", "header");
     let (_, rows) = field(LARGEST).unwrap();
     let circuit = largest(&mut r, rows);
     let mut off = 0;

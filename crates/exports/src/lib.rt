@@ -8,11 +8,12 @@
 // No slice may overlap one that is written. Nothing is returned. The answer's words are written to `answer`, the last slice of each call: number
 // and detail, and then
 //
-//   guppyspoon_inverse       the value
-//   guppyspoon_check_rows    0 none, 1 pass, 2 gate, 3 start, 4 step; and the row that fails, or 0
-//   guppyspoon_check_point   0 none, 1 accept, 2 reject
-//   guppyspoon_read          p, n and l
-//   guppyspoon_deposit       the number of bytes of the text
+//   guppyspoon_inverse         the value
+//   guppyspoon_check_rows      0 none, 1 pass, 2 gate, 3 start, 4 step; and the row that fails, or 0
+//   guppyspoon_check_point     0 none, 1 accept, 2 reject
+//   guppyspoon_check_opening   0 none, 1 accept, 2 reject
+//   guppyspoon_read            p, n and l
+//   guppyspoon_deposit         the number of bytes of the text
 //
 // The answer may have any length. The call is made in any case: of its words as many are written as there is room for, and what stands behind
 // them is left as it was.
@@ -23,6 +24,7 @@ ghost use Rattle.circuit.specs.Promises.{Permutes};
 ghost use Rattle.preparing.specs.Promises.{Prepares};
 ghost use Rattle.rowcheck.specs.Promises.{ChecksRows};
 ghost use Rattle.pointcheck.specs.Promises.{PointChecks};
+ghost use Rattle.opening.specs.Promises.{Opens, ChecksOpening};
 ghost use Rattle.prover.specs.Promises.{Proves};
 ghost use Rattle.sheet.specs.Promises.{Reads};
 ghost use Rattle.archive.specs.Deposit.{Deposits};
@@ -139,6 +141,66 @@ pub extern "C" fn guppyspoon_check_point(
     ensures { λ _. ⌜ Handed pointWords (λ r. PointChecks p n l (now (publics .entry)) (now (prepared .entry)) (now (transcript .entry)) (now (challenges .entry)) (now (scratch .entry)) r (now (scratch .exit))) (now (answer .entry)) (now (answer .exit)) ⌝ }
 {
     let r = pointcheck::check_point(p, n, l, publics, prepared, transcript, challenges, scratch);
+    words::put_point(r, answer);
+}
+
+// `opening::open`: the evaluations at a point of the polynomials that a list names, and their opening polynomial.
+#[no_mangle]
+pub extern "C" fn guppyspoon_open<'a>(
+    p: u32,
+    n: u32,
+    prepared: &'a [u32],
+    transcript: &'a [u32],
+    list: &[u32],
+    evaluations: &mut [u32],
+    opening: &mut [u32],
+    challenges: &[u32],
+    scratch: &mut [u32],
+    answer: &mut [u32],
+)
+    ensures { λ _. ⌜ Handed answerWords (λ r. Opens p n (now (prepared .entry)) (now (transcript .entry)) (now (list .entry)) (now (evaluations .entry)) (now (opening .entry)) (now (challenges .entry)) (now (scratch .entry)) r (now (evaluations .exit)) (now (opening .exit)) (now (scratch .exit))) (now (answer .entry)) (now (answer .exit)) ⌝ }
+{
+    let r = opening::open(
+        p,
+        n,
+        prepared,
+        transcript,
+        list,
+        evaluations,
+        opening,
+        challenges,
+        scratch,
+    );
+    words::put_answer(r, answer);
+}
+
+// `opening::check_opening`: whether lent evaluations and a lent opening polynomial are right, as polynomials.
+#[no_mangle]
+pub extern "C" fn guppyspoon_check_opening<'a>(
+    p: u32,
+    n: u32,
+    prepared: &'a [u32],
+    transcript: &'a [u32],
+    list: &[u32],
+    evaluations: &[u32],
+    opening: &[u32],
+    challenges: &[u32],
+    scratch: &mut [u32],
+    answer: &mut [u32],
+)
+    ensures { λ _. ⌜ Handed pointWords (λ r. ChecksOpening p n (now (prepared .entry)) (now (transcript .entry)) (now (list .entry)) (now (evaluations .entry)) (now (opening .entry)) (now (challenges .entry)) (now (scratch .entry)) r (now (scratch .exit))) (now (answer .entry)) (now (answer .exit)) ⌝ }
+{
+    let r = opening::check_opening(
+        p,
+        n,
+        prepared,
+        transcript,
+        list,
+        evaluations,
+        opening,
+        challenges,
+        scratch,
+    );
     words::put_point(r, answer);
 }
 
