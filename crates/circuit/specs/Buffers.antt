@@ -13,10 +13,13 @@
 -- PARTS
 -- preparedPart n s l                    polynomial s of a prepared circuit
 -- wirePart n c l, zPart n l, tPart n l  the wire of column c, z and t of a transcript; t is what stands behind z
+-- byNumber k pre wire z t none          what belongs to polynomial k, the polynomials being numbered 0 to 7 (prepared), 8 to 10 (wires), 11 (z), 12 (t)
 --
 -- Assumes nothing.
+use mathlib.Core.Bool.{cond}
 use mathlib.Core.List.{List}
 use Prim.Native.Nat.{ℕ, _+_, _*_, _-_}
+use lib.Dec.{eqb, leb}
 use lib.ListN.{take, drop}
 
 -- LENGTHS
@@ -75,3 +78,6 @@ zPart n l = take (zLength n) (drop (zStart n) l)
 
 abbrev pub tPart : ℕ → List ℕ → List ℕ
 tPart n l = drop (tStart n) l
+
+abbrev pub byNumber : {A : Type 0} (k : ℕ) (pre wire : ℕ → A) (z t none : A) → A
+byNumber k pre wire z t none = cond (leb k 7) (pre k) (cond (leb k 10) (wire (k - 8)) (cond (eqb k 11) z (cond (eqb k 12) t none)))

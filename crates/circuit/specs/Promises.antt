@@ -14,8 +14,8 @@
 use mathlib.Core.Path.{_≡_}
 use mathlib.Core.Bool.{Bool, cond, _&&_, _||_}
 use mathlib.Core.List.{List}
-use Prim.Native.Nat.{ℕ, _+_, _*_, _-_}
-use lib.Dec.{eqb, leb}
+use Prim.Native.Nat.{ℕ, _+_, _*_}
+use lib.Dec.{eqb}
 use lib.ListN.{length, getD, take, drop}
 use denote.Ref.{RefT, now, ptr}
 use Rattle.algebra.specs.Lists.{tab}
@@ -23,7 +23,7 @@ use Rattle.field.specs.declared.Answer.{Answer}
 use Rattle.field.specs.Fields.{isRows}
 use Rattle.field.specs.Reasons.{answerOf, isAccepted}
 use Rattle.circuit.specs.Circuit.{permutation}
-use Rattle.circuit.specs.Buffers.{labelsLength, preparedLength, wireLength, zLength, quotientLength, transcriptLength, preparedStart, wireStart, zStart, tStart}
+use Rattle.circuit.specs.Buffers.{labelsLength, preparedLength, wireLength, zLength, quotientLength, transcriptLength, preparedStart, wireStart, zStart, tStart, byNumber}
 use Rattle.circuit.specs.Reasons.{permutationReasons}
 
 -- refused: the positions as they came; accepted: the position that the permutation leads to from each. The labels are only read.
@@ -56,11 +56,7 @@ tPlace n transcript = record { buffer = transcript; start = tStart n; count = qu
 
 abbrev pub numberedPart : ℕ → ℕ → RefT (List ℕ) → RefT (List ℕ) → Part
 numberedPart n k prepared transcript =
-    cond (leb k 7) (preparedPlace n k prepared)
-    (cond (leb k 10) (wirePlace n (k - 8) transcript)
-    (cond (eqb k 11) (zPlace n transcript)
-    (cond (eqb k 12) (tPlace n transcript)
-    (noPart transcript))))
+    byNumber k (λ s. preparedPlace n s prepared) (λ c. wirePlace n c transcript) (zPlace n transcript) (tPlace n transcript) (noPart transcript)
 
 abbrev pub polynomialPart : ℕ → ℕ → RefT (List ℕ) → RefT (List ℕ) → Part
 polynomialPart n k prepared transcript =

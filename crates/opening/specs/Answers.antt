@@ -4,13 +4,11 @@
 -- OpeningAccepts      a mixing number with which `check_opening`, lent these evaluations and some opening polynomial of 3n - 4 elements, answers Accept
 -- few-mixtures        evaluations that are not all right: there are fewer such numbers than the list is long
 -- opened-accepted     after an accepted `open`, `check_opening` lent the same buffers answers Accept, whatever the point and m
--- THE PROOF
--- accept-of           an answer Accept is a verdict accept
 --
 -- Assumes nothing.
-use mathlib.Core.Path.{_≡_, refl, sym, ap, _∙_}
+use mathlib.Core.Path.{_≡_, sym, ap, _∙_}
 use mathlib.Core.Logic.{_≢_}
-use mathlib.Core.Bool.{Bool, true, false, cond}
+use mathlib.Core.Bool.{false}
 use mathlib.Core.List.{List, [], _∷_, _++_}
 use Prim.Native.Nat.{ℕ, _-_, _<_}
 use native.Mathlib.Omega.{arith}
@@ -24,11 +22,11 @@ use Rattle.field.specs.declared.Answer.{Answer}
 use Rattle.field.specs.Reasons.{isAccepted}
 use Rattle.transform.specs.Transform.{scratchLength}
 use Rattle.circuit.specs.Buffers.{openingLength}
-use Rattle.protocol.specs.Protocol.{PointVerdict, accept, reject}
+use Rattle.protocol.specs.Protocol.{accept}
 use Rattle.pointcheck.specs.declared.PointAnswer.{PointAnswer}
-use Rattle.pointcheck.specs.declared.Judged.the-variants.{None, Accept}
+use Rattle.pointcheck.specs.declared.Judged.the-variants.{Accept}
 use Rattle.pointcheck.specs.Buffers.{Readable}
-use Rattle.pointcheck.specs.Promises.{judgedAs}
+use Rattle.pointcheck.specs.Verdicts.{accept-of, answer-accept}
 use Rattle.opening.specs.Opening.{evaluationsOf, openingOf, openingVerdict}
 use Rattle.opening.specs.Promises.{Opens, ChecksOpening}
 use Rattle.opening.specs.RightlyLent.{LentRightly, opening-known, open-known, check-taken}
@@ -47,11 +45,6 @@ pub record OpeningAccepts (p n : ℕ) (prepared transcript list evaluations : Li
   pub accepts : r .verdict ≡ Accept
 
 -- THE PROOF
-
-accept-of : (b : Bool) (v : PointVerdict) → cond b (judgedAs v) None ≡ Accept → v ≡ accept
-accept-of true accept e = refl
-accept-of true reject e = cc
-accept-of false v e = cc
 
 pub few-mixtures : (p n : ℕ) (prepared transcript list : List ℕ) → Readable p n prepared transcript
     → (point : ℕ) (evaluations : List ℕ) → Elements p (length list) evaluations → evaluations ≢ evaluationsOf p n prepared transcript list point
@@ -123,4 +116,4 @@ module _ (p n : ℕ) (prepared transcript list evaluations opening challenges sc
       let answered : s .answer ≡ record { number = 0; detail = 0 } =
       checks .answer ∙ check-taken p n prepared transcript list evaluations' opening' challenges scratch' lent-again elements in
       let verdict : openingVerdict p n prepared transcript list evaluations' opening' point m ≡ accept = rw (evaluated, opened) (O .complete point m) in
-      checks .verdict ∙ rw (answered, verdict)
+      checks .verdict ∙ answer-accept (s .answer) _ answered verdict

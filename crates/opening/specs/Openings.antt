@@ -4,6 +4,7 @@
 -- THE STATEMENT
 -- PassingMixture   a mixing number with which some opening polynomial of 3n - 4 elements is accepted
 -- Openings         exact: the verdict is accept exactly where the two sides have the same coefficients modulo p, all of them
+--                  evaluations-long, opening-long: the definitions give elements, as many as are due
 --                  complete: the right evaluations are accepted with the opening polynomial of the definitions
 --                  only: and with no other of its length
 --                  sound: evaluations that are not all right are accepted with fewer mixing numbers than the list is long, whatever the opening polynomials
@@ -21,7 +22,6 @@ use native.Mathlib.Decide.{decLt}
 use native.Mathlib.Omega.{arith}
 use lib.Dec.{eqb}
 use lib.ListN.{length, getD, drop, length-drop}
-use lib.Seq.{ext-getD}
 use borrow.Author.Tests.{not-true, eqb-false, le-ltb}
 use Rattle.algebra.specs.Lists.{tab, AtMost}
 use Rattle.algebra.specs.Modular.{Prime}
@@ -30,7 +30,7 @@ use Rattle.algebra.specs.Polynomial.{mulP, linear, quotientLinear, reduced, Ele
 use Rattle.algebra.specs.Congruence.{cong, _⨾_, is-0}
 use Rattle.algebra.specs.Counting.{at-most-of}
 use Rattle.algebra.specs.Tables.{length-tab, getD-tab, all-getD}
-use Rattle.algebra.specs.PolynomialLaws.{eval-cong, tab-elements, reduced-elements, reduced-same, coef-reduced, length-reduced}
+use Rattle.algebra.specs.PolynomialLaws.{eval-cong, tab-elements, reduced-elements, reduced-same, reduced-of}
 use Rattle.algebra.specs.Same.{same-refl, same-mul, same-tested, tested-same}
 use Rattle.algebra.specs.Roots.{roots, length-quotient-linear}
 use Rattle.algebra.specs.Linear.{linear-root, linear-exact, linear-only}
@@ -136,10 +136,9 @@ module _ (q n : ℕ) (prepared transcript list : List ℕ) (R : Readable (suc q)
   unfolding openingOf
   only point m opening E e =
       let g = mixture (right point) m in
-      ext-getD 0 opening _ (E .long ∙ sym (length-reduced p (openingLength n) _)) (λ k l.
-      sym (mod-eq-of-lt (all-getD (λ (x : ℕ). x < p) opening (E .below) k l))
-      ∙ linear-only q point g opening (accepted-same (right point) opening point m e) k
-      ∙ sym (coef-reduced p (openingLength n) (quotientLinear point (drop 1 g)) k (omega (arith, E .long))))
+      reduced-of p (openingLength n) opening (quotientLinear point (drop 1 g)) (E .long) (λ k l.
+      sym (mod-eq-of-lt (all-getD (λ (x : ℕ). x < p) opening (E .below) k (omega (arith, E .long))))
+      ∙ linear-only q point g opening (accepted-same (right point) opening point m e) k)
 
   -- with an accepted opening polynomial, m is a root of the errors
   root : (s h : List ℕ) (point m : ℕ) → openingVerdict (suc q) n prepared transcript list s h point m ≡ accept

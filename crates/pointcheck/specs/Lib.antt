@@ -2,3 +2,4 @@
 pub mod Promises
 pub mod Buffers
 pub mod AtZeta
+pub mod Verdicts

@@ -31,7 +31,7 @@ use Rattle.circuit.specs.Witness.{lent-laid, laid-elements}
 use Rattle.circuit.specs.Buffers.{witnessLength, quotientLength}
 use Rattle.circuit.specs.Reasons.{rowsReasons}
 use Rattle.circuit.specs.RightlyLent.{RightCircuit, RightPublics, rows-taken, point-taken}
-use Rattle.protocol.specs.Protocol.{RowVerdict, pass, fails, rowVerdict, rowN, rowD, rowZ, PointVerdict, accept, reject, prepared, transcript, proved, zeroFactor}
+use Rattle.protocol.specs.Protocol.{RowVerdict, pass, fails, rowVerdict, rowN, rowD, rowZ, prepared, transcript, proved, zeroFactor}
 use Rattle.protocol.specs.Rows.{RowHolds, passed-row, rows-pass, rowZ-lt}
 use Rattle.protocol.specs.Demand3.{witnessOf, PassingPair, HoldingAlpha, AcceptedZeta, demand-3}
 use Rattle.rowcheck.specs.declared.RowAnswer.{RowAnswer}
@@ -39,7 +39,8 @@ use Rattle.rowcheck.specs.declared.Verdict.the-variants.{None, Pass}
 use Rattle.rowcheck.specs.Promises.{verdictOf, lentZ, ChecksRows}
 use Rattle.pointcheck.specs.declared.PointAnswer.{PointAnswer}
 use Rattle.pointcheck.specs.declared.Judged.the-variants as judged
-use Rattle.pointcheck.specs.Promises.{judgedAs, PointChecks}
+use Rattle.pointcheck.specs.Promises.{PointChecks}
+use Rattle.pointcheck.specs.Verdicts.{accept-of, answer-accept}
 
 -- THE STATEMENT
 
@@ -126,25 +127,17 @@ module _ (p n : ℕ) (C : Circuit) (x v v' z z' : ℕ → ℕ) (beta gamma : ℕ
 
 -- THE ANSWERS
 
--- an answer that is a verdict of pass or of accept, and back
+-- an answer that is a verdict of pass, and back
 pass-of : (b : Bool) (v : RowVerdict) → cond b (verdictOf v) None ≡ Pass → v ≡ pass
 pass-of true pass e = refl
 pass-of true (fails id i) e = cc
 pass-of false v e = cc
-
-accept-of : (b : Bool) (v : PointVerdict) → cond b (judgedAs v) judged.None ≡ judged.Accept → v ≡ accept
-accept-of true accept e = refl
-accept-of true reject e = cc
-accept-of false v e = cc
 
 abbrev accepted : Answer
 accepted = record { number = 0; detail = 0 }
 
 answer-pass : (a : Answer) (v : RowVerdict) → a ≡ accepted → v ≡ pass → cond (isAccepted a) (verdictOf v) None ≡ Pass
 answer-pass a v e f = rw (e, f)
-
-answer-accept : (a : Answer) (v : PointVerdict) → a ≡ accepted → v ≡ accept → cond (isAccepted a) (judgedAs v) judged.None ≡ judged.Accept
-answer-accept a v e f = rw (e, f)
 
 lent-values : (p n : ℕ) (z : List ℕ) (i : ℕ) → i < n → lentZ (evaluation p n z) i ≡ valueAt p n z i
 unfolding evaluation
