@@ -7,6 +7,7 @@ fn main() {
     preparing_cases::run();
     rowcheck_cases::run();
     pointcheck_cases::run();
+    opening_cases::run();
     prover_cases::run();
     prover_circuits::run();
 }
