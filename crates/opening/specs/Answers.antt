@@ -1,8 +1,9 @@
 -- What an opening shows, about the calls' own answers: any that keep the calls' promises, Opens and ChecksOpening.
 --
--- THE STATEMENT
+-- THE COUNT
 -- OpeningAccepts      a mixing number with which `check_opening`, lent these evaluations and some opening polynomial of 3n - 4 elements, answers Accept
 -- few-mixtures        evaluations that are not all right: there are fewer such numbers than the list is long
+-- AFTER AN ACCEPTED `open`
 -- opened-accepted     after an accepted `open`, `check_opening` lent the same buffers answers Accept, whatever the point and m
 --
 -- Assumes nothing.
@@ -32,7 +33,7 @@ use Rattle.opening.specs.Promises.{Opens, ChecksOpening}
 use Rattle.opening.specs.RightlyLent.{LentRightly, opening-known, open-known, check-taken}
 use Rattle.opening.specs.Openings.{Openings, openings}
 
--- THE STATEMENT
+-- THE COUNT
 
 pub record OpeningAccepts (p n : ℕ) (prepared transcript list evaluations : List ℕ) (point m : ℕ) : Type 0 where
   pub m-element : m < p
@@ -43,8 +44,6 @@ pub record OpeningAccepts (p n : ℕ) (prepared transcript list evaluations : Li
   pub r : PointAnswer
   pub checks : ChecksOpening p n prepared transcript list evaluations opening (point ∷ m ∷ []) scratch r scratch'
   pub accepts : r .verdict ≡ Accept
-
--- THE PROOF
 
 pub few-mixtures : (p n : ℕ) (prepared transcript list : List ℕ) → Readable p n prepared transcript
     → (point : ℕ) (evaluations : List ℕ) → Elements p (length list) evaluations → evaluations ≢ evaluationsOf p n prepared transcript list point
@@ -58,6 +57,8 @@ few-mixtures p n prepared transcript list R point evaluations E wrong =
       accepted = accept-of (isAccepted (h .r .answer)) _ (sym (h .checks .verdict) ∙ h .accepts);
     })
     (omega arith)
+
+-- AFTER AN ACCEPTED `open`
 
 module _ (p n : ℕ) (prepared transcript list evaluations opening challenges scratch : List ℕ) (r : Answer) (evaluations' opening' scratch' : List ℕ)
     (opens : Opens p n prepared transcript list evaluations opening challenges scratch r evaluations' opening' scratch') (taken : r .number ≡ 0) where
