@@ -6,7 +6,7 @@
 -- preparedLength                        of a prepared circuit: eight polynomials of n coefficients
 -- wireLength, zLength, quotientLength   the coefficients of a wire, of z and of t
 -- transcriptLength                      of a transcript: 7n - 3 (`transcript-long` of Parts)
--- openingLength                         the coefficients of an opening polynomial: one less than t has
+-- openingLength                         the coefficients of an opening polynomial, one less than t has: 3n - 4 (`opening-long` of Parts)
 -- PLACES
 -- preparedStart n s                     where polynomial s of a prepared circuit starts
 -- wireStart n c, zStart n, tStart n     where the wire of column c, z and t start in a transcript
