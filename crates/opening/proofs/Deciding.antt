@@ -5,8 +5,8 @@
 --
 -- Assumes nothing.
 use mathlib.Core.Path.{_≡_, sym, ap, _∙_}
-use mathlib.Core.Bool.{Bool, true, false}
-use mathlib.Core.List.{List, [], _∷_, _++_}
+use mathlib.Core.Bool.{Bool}
+use mathlib.Core.List.{List, [], _∷_}
 use Prim.Native.Nat.{ℕ, _+_, _≤_}
 use native.Mathlib.Omega.{arith}
 use lib.ListN.{length}
@@ -14,22 +14,15 @@ use Rattle.field.specs.declared.Answer.{Answer}
 use Rattle.field.specs.Primes.{rows-power}
 use Rattle.field.specs.Reasons.{answerOf, badElement}
 use Rattle.field.specs.ReasonLaws.{refused-first}
-use Rattle.opening.specs.Reasons.{lentListReasons, openingReasons}
+use Rattle.opening.specs.Reasons.{lentListReasons, counted, openingReasons}
 use Rattle.opening.specs.RightlyLent.{lent-list-numbers, lent-list-of}
 
 module _ (p n : ℕ) (prepared transcript list evaluations opening challenges scratch : List ℕ) {a : Answer}
     (e : a ≡ answerOf (lentListReasons p n prepared transcript list evaluations opening challenges scratch)) where
   pub refused : (checks : Bool) → (a .number ≡ 0 → ⊥) → a ≡ answerOf (openingReasons p n prepared transcript list evaluations opening challenges scratch checks)
-  refused true h =
+  refused checks h =
       refused-first (lentListReasons p n prepared transcript list evaluations opening challenges scratch)
-      (badElement p (prepared ++ (transcript ++ (evaluations ++ (opening ++ challenges)))) ∷ [])
-      (lent-list-numbers p n prepared transcript list evaluations opening challenges scratch)
-      a
-      e
-      h
-  refused false h =
-      refused-first (lentListReasons p n prepared transcript list evaluations opening challenges scratch)
-      (badElement p (prepared ++ (transcript ++ challenges)) ∷ [])
+      (badElement p (counted p n prepared transcript list evaluations opening challenges scratch checks) ∷ [])
       (lent-list-numbers p n prepared transcript list evaluations opening challenges scratch)
       a
       e

@@ -9,7 +9,7 @@
 -- Assumes nothing.
 use mathlib.Core.Path.{_≡_, sym, ap, _∙_}
 use mathlib.Core.Logic.{_≢_}
-use mathlib.Core.Bool.{false}
+use mathlib.Core.Bool.{true, false}
 use mathlib.Core.List.{List, [], _∷_, _++_}
 use Prim.Native.Nat.{ℕ, _-_, _<_}
 use native.Mathlib.Omega.{arith}
@@ -30,7 +30,7 @@ use Rattle.pointcheck.specs.Buffers.{Readable}
 use Rattle.pointcheck.specs.Verdicts.{accept-of, answer-accept}
 use Rattle.opening.specs.Opening.{evaluationsOf, openingOf, openingVerdict}
 use Rattle.opening.specs.Promises.{Opens, ChecksOpening}
-use Rattle.opening.specs.RightlyLent.{LentRightly, opening-known, open-known, check-taken}
+use Rattle.opening.specs.RightlyLent.{LentRightly, opening-known, opening-taken}
 use Rattle.opening.specs.Openings.{Openings, openings}
 
 -- THE COUNT
@@ -62,8 +62,11 @@ few-mixtures p n prepared transcript list R point evaluations E wrong =
 
 module _ (p n : ℕ) (prepared transcript list evaluations opening challenges scratch : List ℕ) (r : Answer) (evaluations' opening' scratch' : List ℕ)
     (opens : Opens p n prepared transcript list evaluations opening challenges scratch r evaluations' opening' scratch') (taken : r .number ≡ 0) where
-  known : LentRightly p n prepared transcript list evaluations opening challenges scratch
-  known = opening-known p n prepared transcript list evaluations opening challenges scratch false (sym (ap (λ (a : Answer). a .number) (opens .answer)) ∙ taken)
+  was : LentRightly p n prepared transcript list evaluations opening challenges scratch × All (λ (x : ℕ). x < p) (prepared ++ (transcript ++ challenges))
+  was = opening-known p n prepared transcript list evaluations opening challenges scratch false (sym (ap (λ (a : Answer). a .number) (opens .answer)) ∙ taken)
+
+  abbrev known : LentRightly p n prepared transcript list evaluations opening challenges scratch
+  known = was .0
 
   O : Openings p n prepared transcript list
   O = openings p n prepared transcript list (known .checked .readable)
@@ -105,9 +108,8 @@ module _ (p n : ℕ) (prepared transcript list evaluations opening challenges sc
   elements : All (λ (x : ℕ). x < p) (prepared ++ (transcript ++ (evaluations' ++ (opening' ++ challenges))))
   elements =
       let P : ℕ → Type 0 = λ x. x < p in
-      let was = open-known p n prepared transcript list evaluations opening challenges scratch (sym (ap (λ (a : Answer). a .number) (opens .answer)) ∙ taken) in
-      let later = all-right P prepared (transcript ++ challenges) was in
-      all-append P prepared _ (all-left P prepared (transcript ++ challenges) was)
+      let later = all-right P prepared (transcript ++ challenges) (was .1) in
+      all-append P prepared _ (all-left P prepared (transcript ++ challenges) (was .1))
       (all-append P transcript _ (all-left P transcript challenges later)
       (all-append P evaluations' _ (right-evaluations .below) (all-append P opening' _ (right-opening .below) (all-right P transcript challenges later))))
 
@@ -115,6 +117,6 @@ module _ (p n : ℕ) (prepared transcript list evaluations opening challenges sc
       → ChecksOpening p n prepared transcript list evaluations' opening' challenges scratch' s scratch'' → s .verdict ≡ Accept
   opened-accepted s scratch'' checks =
       let answered : s .answer ≡ record { number = 0; detail = 0 } =
-      checks .answer ∙ check-taken p n prepared transcript list evaluations' opening' challenges scratch' lent-again elements in
+      checks .answer ∙ opening-taken p n prepared transcript list evaluations' opening' challenges scratch' true lent-again elements in
       let verdict : openingVerdict p n prepared transcript list evaluations' opening' point m ≡ accept = rw (evaluated, opened) (O .complete point m) in
       checks .verdict ∙ answer-accept (s .answer) _ answered verdict

@@ -6,9 +6,9 @@
 -- badNumber list       13: a polynomial number is above 12; detail: the first such place in the list
 -- listReasons list     12 and 13
 -- lentListReasons      the reasons of both calls but the last: those of p, n and the lengths, then those of the list
--- openReasons          all reasons of `open`, which only writes the evaluations and the opening polynomial: 7 skips them
--- checkReasons         all reasons of `check_opening`
--- openingReasons       of one or the other
+-- counted checks       the elements that 7 counts, end to end: `open` (false) only writes the evaluations and the opening polynomial, and skips them
+-- openingReasons       all reasons of `check_opening` (true) or of `open` (false)
+-- openReasons, checkReasons   the same by name
 --
 -- Assumes nothing.
 use mathlib.Core.Bool.{Bool, true, false, _||_}
@@ -40,12 +40,15 @@ module _ (p n : ℕ) (prepared transcript list evaluations opening challenges sc
       (openingDue n (length list))
       ++ listReasons list
 
-  abbrev pub openReasons : List Reason
-  openReasons = lentListReasons ++ (badElement p (prepared ++ (transcript ++ challenges)) ∷ [])
-
-  abbrev pub checkReasons : List Reason
-  checkReasons = lentListReasons ++ (badElement p (prepared ++ (transcript ++ (evaluations ++ (opening ++ challenges)))) ∷ [])
+  abbrev pub counted : Bool → List ℕ
+  counted true = prepared ++ (transcript ++ (evaluations ++ (opening ++ challenges)))
+  counted false = prepared ++ (transcript ++ challenges)
 
   abbrev pub openingReasons : Bool → List Reason
-  openingReasons true = checkReasons
-  openingReasons false = openReasons
+  openingReasons checks = lentListReasons ++ (badElement p (counted checks) ∷ [])
+
+  abbrev pub openReasons : List Reason
+  openReasons = openingReasons false
+
+  abbrev pub checkReasons : List Reason
+  checkReasons = openingReasons true

@@ -4,15 +4,13 @@
 -- LentRightly         p and n are admissible, the lengths are those due, and the list is right
 -- lent-list-numbers   no reason of the calls has number 0
 -- lent-list-of, lent-list-taken   where no reason but 7 applies, the call is lent rightly; and back
--- opening-known       what is known where no reason of one of the calls applies
--- open-known          the same of `open`, with its elements
--- open-taken, check-taken         a call that is lent rightly, with elements in its buffers, is never turned down
+-- opening-known, opening-taken    of either call: where no reason applies, it is lent rightly and counts elements only; and back
 --
 -- Assumes nothing.
 use mathlib.Core.Path.{_≡_, refl}
 use mathlib.Core.Logic.{_≢_}
-use mathlib.Core.Bool.{Bool, true, false, _||_}
-use mathlib.Core.List.{List, [], _∷_, _++_}
+use mathlib.Core.Bool.{Bool, false, _||_}
+use mathlib.Core.List.{List, [], _∷_}
 use Prim.Native.Nat.{ℕ, _≤_, _<_}
 use native.Mathlib.Omega.{arith}
 use lib.Dec.{eqb, ltb}
@@ -24,7 +22,7 @@ use Rattle.field.specs.Reasons.{Reason, answerOf, lentReasons, badElement}
 use Rattle.field.specs.ReasonLaws.{none-applies, taken, both-none, both-taken, elements-of, elements-none}
 use Rattle.field.specs.Lent.{lent-numbers, lent-of, lent-taken}
 use Rattle.transform.specs.Transform.{scratchLength}
-use Rattle.opening.specs.Reasons.{openingDue, listReasons, lentListReasons, openReasons, checkReasons, openingReasons}
+use Rattle.opening.specs.Reasons.{openingDue, listReasons, lentListReasons, counted, openingReasons}
 use Rattle.opening.specs.Buffers.{Checked}
 
 pub record RightList (list : List ℕ) : Type 0 where
@@ -101,28 +99,21 @@ module _ (p n : ℕ) (prepared transcript list evaluations opening challenges sc
 
   -- EACH CALL
 
+  -- the elements that the call counts
+  abbrev all : Bool → List ℕ
+  all checks = counted p n prepared transcript list evaluations opening challenges scratch checks
+
   pub opening-known : (checks : Bool)
       → answerOf (openingReasons p n prepared transcript list evaluations opening challenges scratch checks) .number ≡ 0
       → LentRightly p n prepared transcript list evaluations opening challenges scratch
-  opening-known true e = lent-list-of (both-none begun (badElement p (prepared ++ (transcript ++ (evaluations ++ (opening ++ challenges)))) ∷ []) lent-list-numbers e .0)
-  opening-known false e = lent-list-of (both-none begun (badElement p (prepared ++ (transcript ++ challenges)) ∷ []) lent-list-numbers e .0)
+      × All (λ (x : ℕ). x < p) (counted p n prepared transcript list evaluations opening challenges scratch checks)
+  opening-known checks e =
+      let both = both-none begun (badElement p (all checks) ∷ []) lent-list-numbers e in
+      (lent-list-of (both .0), elements-of p (all checks) (none-applies (badElement p (all checks) ∷ []) (omega arith, tt) (both .1) .0))
 
-  pub open-known : answerOf (openReasons p n prepared transcript list evaluations opening challenges scratch) .number ≡ 0
-      → All (λ (x : ℕ). x < p) (prepared ++ (transcript ++ challenges))
-  open-known e =
-      let all : List ℕ = prepared ++ (transcript ++ challenges) in
-      elements-of p all (none-applies (badElement p all ∷ []) (omega arith, tt) (both-none begun (badElement p all ∷ []) lent-list-numbers e .1) .0)
-
-  pub open-taken : LentRightly p n prepared transcript list evaluations opening challenges scratch
-      → All (λ (x : ℕ). x < p) (prepared ++ (transcript ++ challenges))
-      → answerOf (openReasons p n prepared transcript list evaluations opening challenges scratch) ≡ record { number = 0; detail = 0 }
-  open-taken L a =
-      let all : List ℕ = prepared ++ (transcript ++ challenges) in
-      both-taken begun (badElement p all ∷ []) lent-list-numbers (lent-list-taken L) (taken (badElement p all ∷ []) (elements-none p all a, tt))
-
-  pub check-taken : LentRightly p n prepared transcript list evaluations opening challenges scratch
-      → All (λ (x : ℕ). x < p) (prepared ++ (transcript ++ (evaluations ++ (opening ++ challenges))))
-      → answerOf (checkReasons p n prepared transcript list evaluations opening challenges scratch) ≡ record { number = 0; detail = 0 }
-  check-taken L a =
-      let all : List ℕ = prepared ++ (transcript ++ (evaluations ++ (opening ++ challenges))) in
-      both-taken begun (badElement p all ∷ []) lent-list-numbers (lent-list-taken L) (taken (badElement p all ∷ []) (elements-none p all a, tt))
+  pub opening-taken : (checks : Bool) → LentRightly p n prepared transcript list evaluations opening challenges scratch
+      → All (λ (x : ℕ). x < p) (counted p n prepared transcript list evaluations opening challenges scratch checks)
+      → answerOf (openingReasons p n prepared transcript list evaluations opening challenges scratch checks) ≡ record { number = 0; detail = 0 }
+  opening-taken checks L a =
+      both-taken begun (badElement p (all checks) ∷ []) lent-list-numbers (lent-list-taken L)
+      (taken (badElement p (all checks) ∷ []) (elements-none p (all checks) a, tt))

@@ -3,7 +3,8 @@
 -- prepared, transcript   what preparing writes for the sheet, and what the prover lays
 -- evaluated, opened, judged   the evaluations, the opening polynomial and the verdict of the definitions, for these two
 -- answered               the answer of `open` to a list, all else being right
--- table                  the cases: the first five blocks are those of a program not kept here
+-- five, thirteen         the lists of a, b, c, z and t, and of all polynomials
+-- table                  the cases; the openings up to that of a at 1 are those of a program not kept here
 -- worked                 every case is right
 --
 -- Assumes nothing.

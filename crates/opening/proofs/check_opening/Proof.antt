@@ -21,7 +21,7 @@ judge-requires : tie.Need-judge-requires
 judge-requires c κs =
     let a = c .before .before .before .before .before .before .before .before .before .before .before .args in
     let L = opening-known (a .p) (a .n) (a .prepared .now) (a .transcript .now) (a .list .now) (a .evaluations .now) (a .opening .now) (a .challenges .now) (a .scratch .now) true (sym (ap (λ (d : Answer). d .number) (c .before .before .decide .ensures)) ∙ c .before .if1 .left) in
-    (L .checked, L .scratch-length)
+    (L .0 .checked, L .0 .scratch-length)
 
 same-length-2 : tie.Need-same-length-2
 same-length-2 c = search needs

@@ -15,7 +15,7 @@ work-requires : tie.Need-work-requires
 work-requires c κs =
     let a = c .before .before .before .before .before .before .before .before .before .before .before .before .before .before .before .args in
     let L = opening-known (a .p) (a .n) (a .prepared .now) (a .transcript .now) (a .list .now) (a .evaluations .now) (a .opening .now) (a .challenges .now) (a .scratch .now) false (sym (ap (λ (d : Answer). d .number) (c .before .before .before .before .decide .ensures)) ∙ c .before .before .before .if1 .taken) in
-    (L .checked, L .scratch-length)
+    (L .0 .checked, L .0 .scratch-length)
 
 same-length : tie.Need-same-length
 same-length c = search needs
