@@ -6,12 +6,14 @@
 -- Assumes nothing.
 use mathlib.Core.Path.{_≡_, refl}
 use mathlib.Core.List.{List, [], _∷_, _++_}
-use Prim.Native.Nat.{ℕ, _+_, _%_, _^_}
+use Prim.Native.Nat.{ℕ, _+_, _*_, _%_, _^_}
+use lib.ListN.{getD}
 use Rattle.algebra.specs.Lists.{tab, All}
 use Rattle.algebra.specs.Modular.{powF, first, inverse}
-use Rattle.algebra.specs.Polynomial.{eval, addP, scaleP, mulP, linear, dilate, reduced, remainderVanishing}
+use Rattle.algebra.specs.Polynomial.{coef, eval, addP, scaleP, mulP, linear, dilate, reduced, remainderVanishing}
 use Rattle.field.specs.Fields.{generator, root, point, multiplier, tag}
-use Rattle.transform.specs.Transform.{interpolation}
+use Rattle.transform.specs.Transform.{evaluation, interpolation}
+use Rattle.transform.specs.Passes.{strided, oddWord, passed}
 use Rattle.circuit.specs.Circuit.{lentWitness, permutation}
 use Rattle.protocol.specs.Protocol.{wiredTag, rowN, rowD, rowZ, polyN, polyD, polyL, gatePart, stepPart, startPart, polyF, preparedPoly, prepared, wiresOf, zOf}
 use Rattle.protocol.specs.Worked.{circuit, publics, witness, Case, number, numbers, _&_}
@@ -49,11 +51,34 @@ shifted i =
 abbrev mixture : List ℕ
 mixture = mixtureOf 17 2 opened.prepared opened.transcript opened.five (evaluationsOf 17 2 opened.prepared opened.transcript opened.five 2) 3
 
+-- the passes on 1 + 2X + 4X² + 8X³ over 17 with four rows: the coefficients, after the first pass, after the second
+abbrev points : List ℕ
+points = tab (point 17 4) 4
+
+abbrev coefficients : List ℕ
+coefficients = 1 ∷ 2 ∷ 4 ∷ 8 ∷ []
+
+abbrev once : List ℕ
+once = passed 17 points 2 2 coefficients
+
+abbrev twice : List ℕ
+twice = passed 17 points 1 2 once
+
 abbrev pub table : List Case
 table =
     record { what = "w"; is = number (root 17 2); should = number 16 }
     ∷ record { what = "1/2"; is = number (inverse 17 2); should = number 9 }
     ∷ record { what = "1/15"; is = number (inverse 17 15); should = number 8 }
+    ∷ record { what = "points of four rows"; is = numbers points; should = numbers (1 ∷ 13 ∷ 16 ∷ 4 ∷ []) }
+    ∷ record { what = "coefficients: stride 4"; is = numbers (strided 17 13 4 1 coefficients); should = numbers (1 ∷ 2 ∷ 4 ∷ 8 ∷ []) }
+    ∷ record { what = "after the first pass"; is = numbers once; should = numbers (5 ∷ 10 ∷ 14 ∷ 11 ∷ []) }
+    ∷ record { what = "stride 2"; is = numbers (strided 17 13 2 2 coefficients); should = numbers (5 ∷ 10 ∷ 14 ∷ 11 ∷ []) }
+    ∷ record { what = "after the second pass"; is = numbers twice; should = numbers (15 ∷ 4 ∷ 12 ∷ 7 ∷ []) }
+    ∷ record { what = "stride 1"; is = numbers (strided 17 13 1 4 coefficients); should = numbers (15 ∷ 4 ∷ 12 ∷ 7 ∷ []) }
+    ∷ record { what = "values at the four points"; is = numbers (evaluation 17 4 coefficients); should = numbers (15 ∷ 4 ∷ 12 ∷ 7 ∷ []) }
+    ∷ record { what = "the product of word 1"; is = number (getD points 1 0 * oddWord 1 once 1 % 17); should = number 7 }
+    ∷ record { what = "1/4"; is = number (inverse 17 4); should = number 13 }
+    ∷ record { what = "the way back"; is = numbers (interpolation 17 4 (coef coefficients)); should = numbers (8 ∷ 6 ∷ 3 ∷ 1 ∷ []) }
     ∷ record { what = "tags of where the permutation leads"; is = numbers (tab (wiredTag 17 2 circuit) 6); should = numbers (1 ∷ 14 ∷ 3 ∷ 9 ∷ 16 ∷ 8 ∷ []) }
     ∷ record { what = "selectors and wired tags as polynomials"; is = numbers (prepared 17 2 circuit); should = numbers (9 ∷ 8 ∷ 9 ∷ 8 ∷ 16 ∷ 0 ∷ 9 ∷ 9 ∷ 0 ∷ 0 ∷ 16 ∷ 2 ∷ 6 ∷ 14 ∷ 12 ∷ 4 ∷ []) }
     ∷ record { what = "qL × a"; is = numbers (reduced 17 3 (mulP (pre 0) (wire 0))); should = numbers (2 ∷ 14 ∷ 1 ∷ []) }
@@ -86,5 +111,5 @@ table =
     ∷ []
 
 pub by-hand : All (λ r. r .is ≡ r .should) table
-unfolding tab powF first inverse reduced remainderVanishing generator root point multiplier tag interpolation lentWitness permutation rowN rowD rowZ polyN polyD polyL gatePart stepPart startPart polyF prepared polynomialOf evaluationsOf mixtureOf
-by-hand = refl & refl & refl & refl & refl & refl & refl & refl & refl & refl & refl & refl & refl & refl & refl & refl & refl & refl & refl & refl & refl & refl & refl & refl & refl & refl & refl & refl & refl & refl & refl & refl & tt
+unfolding tab powF first inverse reduced remainderVanishing generator root point multiplier tag evaluation interpolation strided passed lentWitness permutation rowN rowD rowZ polyN polyD polyL gatePart stepPart startPart polyF prepared polynomialOf evaluationsOf mixtureOf
+by-hand = refl & refl & refl & refl & refl & refl & refl & refl & refl & refl & refl & refl & refl & refl & refl & refl & refl & refl & refl & refl & refl & refl & refl & refl & refl & refl & refl & refl & refl & refl & refl & refl & refl & refl & refl & refl & refl & refl & refl & refl & refl & refl & tt

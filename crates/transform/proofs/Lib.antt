@@ -1,7 +1,7 @@
 -- Laws that the functions' proofs cite.
-pub mod Parts
 pub mod SliceLaws
-pub mod Halving
+pub mod Passing
+pub mod Stages
 pub mod InPlaces
 pub mod Deciding
 pub mod Laying

@@ -1,6 +1,6 @@
 -- Definitions, then theorems.
 pub mod Transform
-pub mod Halves
+pub mod Passes
 pub mod Points
 pub mod Buffers
 pub mod Interpolation

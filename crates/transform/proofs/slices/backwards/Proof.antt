@@ -1,8 +1,9 @@
--- `transform::slices::backwards` meets its contract: after i turns the first i words are written. Assumes nothing.
-use mathlib.Core.Path.{_≡_, _∙_}
+-- `transform::slices::backwards` meets its contract: after i turns the first i words are written, and `at` is the word that the next turn reads.
+-- Assumes nothing.
+use mathlib.Core.Path.{_≡_, sym, ap, _∙_}
 use mathlib.Core.List.{_++_}
-use Prim.Native.Nat.{ℕ, _*_, _-_, _%_, _<_, _≤_}
-use native.Mathlib.Nat.{zero-add, mod-lt}
+use Prim.Native.Nat.{ℕ, _+_, _*_, _-_, _%_, _<_, _≤_}
+use native.Mathlib.Nat.{zero-add, mod-lt, mod-self, mod-eq-of-lt, sub-zero}
 use native.Mathlib.Omega.{arith}
 use lib.ListN.{length, getD, drop, length-set}
 use borrow.Author.Needs.{needs}
@@ -12,30 +13,22 @@ use Rattle.transform.proofs.slices.backwards.Statement.{statement}
 use Rattle.transform.proofs.slices.backwards.Tie as tie
 
 abbrev Inv-loop : tie.InvT-loop
-Inv-loop p c vals out₀ i₀ out i =
+Inv-loop p c vals out₀ at₀ i₀ out at i =
     (i ≤ length out₀)
     × (out ≡ tab (λ k. c * getD vals ((length vals - k) % length vals) 0 % p) i ++ drop i out₀)
     × (length out ≡ length out₀)
+    × (at ≡ (length vals - i) % length vals)
 
 abbrev μ-loop : tie.MeasureT-loop
-μ-loop p c vals out₀ i₀ out i = length out₀ - i
+μ-loop p c vals out₀ at₀ i₀ out at i = length out₀ - i
 
 loop-holds : tie.Need-loop-holds Inv-loop μ-loop
-loop-holds c = (search needs, wrote-none _ _, search needs)
+loop-holds c = (search needs, wrote-none _ _, search needs, rw (sub-zero, mod-self))
 
--- the number of values
-abbrev count : tie.In-loop Inv-loop μ-loop → ℕ
-count c = length (c .before .before .before .before .args .vals .now)
-
--- the word that a turn reads is one of them
-within : (c : tie.In-loop Inv-loop μ-loop) → (count c - c .before .loop .i) % count c < count c
-within c = mod-lt (count c - c .before .loop .i) (omega arith)
-
-sub-mul-add : tie.Need-sub-mul-add Inv-loop μ-loop
-sub-mul-add c = search needs
-
-rem-mul-add : tie.Need-rem-mul-add Inv-loop μ-loop
-rem-mul-add c = search needs
+-- the word that a turn reads is one of the values
+within : (c : tie.In-loop Inv-loop μ-loop) → c .before .loop .at < length (c .before .before .before .before .args .vals .now)
+within c =
+    omega (arith, c .before .loop .inv .3, mod-lt (length (c .before .before .before .before .args .vals .now) - c .before .loop .i) {m = length (c .before .before .before .before .args .vals .now)} (omega arith))
 
 mul-mul-add : tie.Need-mul-mul-add Inv-loop μ-loop
 mul-mul-add c = omega (arith, within c)
@@ -55,6 +48,9 @@ slice-write-out c = search needs
 add-i : tie.Need-add-i Inv-loop μ-loop
 add-i c = search needs
 
+sub-at : tie.Need-sub-at Inv-loop μ-loop
+sub-at c = search needs
+
 loop-less : tie.Need-loop-less Inv-loop μ-loop
 loop-less c = search needs
 
@@ -62,8 +58,9 @@ loop-again : tie.Need-loop-again Inv-loop μ-loop
 loop-again c =
     let inv = c .before .before .before .loop .inv in (
       omega arith,
-      wrote-more _ _ _ _ _ (omega arith) (inv .1) (c .mul-add .ensures ∙ rw zero-add),
+      wrote-more _ _ _ _ _ (omega arith) (inv .1) (c .mul-add .ensures ∙ rw (zero-add, inv .3)),
       simp length-set (omega arith),
+      sym (mod-eq-of-lt (omega arith)),
     )
 
 same-length : tie.Need-same-length Inv-loop μ-loop
@@ -79,14 +76,13 @@ backwards-spec =
     Inv-loop
     μ-loop
     loop-holds
-    sub-mul-add
-    rem-mul-add
     mul-mul-add
     shared-slice-read-mul-add
     mul-add-requires
     mul-out
     slice-write-out
     add-i
+    sub-at
     loop-less
     loop-again
     same-length
