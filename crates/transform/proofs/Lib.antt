@@ -1,6 +1,7 @@
 -- Laws that the functions' proofs cite.
 pub mod SliceLaws
 pub mod Passing
+pub mod Strides
 pub mod Stages
 pub mod InPlaces
 pub mod Deciding
