@@ -5,8 +5,9 @@
 //
 // The parts, of which those named behind `--` are run, or all if none is:
 //
-//     compare   lends the same inputs to both, many of them, short and long, valid and damaged, and compares every word of every buffer
-//               afterwards, those that a call only reads and the words around each lent part among them
+//     compare   holds both to the sheet of document 01, and their transforms of every size to the values at the points; then lends the same inputs to both,
+//               many of them, short and long, valid and damaged, and compares every word of every buffer afterwards, those that a call only reads and
+//               the words around each lent part among them
 //     header    compares include/guppyspoon.h with the library's source, and compiles and runs the C programs that include it
 //     stack     prints the stack that each call takes at its largest size, beside what the header says
 //     measure   prints the time of each call on both sides and the ratio
@@ -34,6 +35,7 @@ mod sheet_cases;
 mod sheet_compare;
 mod sheets;
 mod stack;
+mod transforms;
 
 const PARTS: [&str; 4] = ["compare", "header", "stack", "measure"];
 
@@ -45,6 +47,7 @@ fn main() {
     let mut differences = 0;
     if says("compare") {
         differences += document::run();
+        differences += transforms::run();
         differences += compare::run(times);
         differences += sheet_compare::run(times);
     }

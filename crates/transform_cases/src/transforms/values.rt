@@ -58,8 +58,15 @@ fn known() {
     show(b"four", true, 2013265921, 4, &[0, 2013265920, 123456789, 1]);
 }
 
+// The numbers whose passes docs/READER.md works by hand, as coefficients and as values.
+fn passes() {
+    show(b"passes", false, 17, 4, &[1, 2, 4, 8]);
+    show(b"passes", true, 17, 4, &[1, 2, 4, 8]);
+}
+
 pub fn run() {
     worked();
     worked_back();
     known();
+    passes();
 }

@@ -1,8 +1,8 @@
 -- `transform::slices::backwards` meets its contract: after i turns the first i words are written, and `at` is the word that the next turn reads.
 -- Assumes nothing.
-use mathlib.Core.Path.{_≡_, sym, ap, _∙_}
+use mathlib.Core.Path.{_≡_, sym, _∙_}
 use mathlib.Core.List.{_++_}
-use Prim.Native.Nat.{ℕ, _+_, _*_, _-_, _%_, _<_, _≤_}
+use Prim.Native.Nat.{_*_, _-_, _%_, _<_, _≤_}
 use native.Mathlib.Nat.{zero-add, mod-lt, mod-self, mod-eq-of-lt, sub-zero}
 use native.Mathlib.Omega.{arith}
 use lib.ListN.{length, getD, drop, length-set}
