@@ -79,6 +79,7 @@ table =
     ∷ record { what = "the product of word 1"; is = number (getD points 1 0 * oddWord 1 once 1 % 17); should = number 7 }
     ∷ record { what = "1/4"; is = number (inverse 17 4); should = number 13 }
     ∷ record { what = "the way back"; is = numbers (interpolation 17 4 (coef coefficients)); should = numbers (8 ∷ 6 ∷ 3 ∷ 1 ∷ []) }
+    ∷ record { what = "and its values"; is = numbers (evaluation 17 4 (8 ∷ 6 ∷ 3 ∷ 1 ∷ [])); should = numbers (1 ∷ 2 ∷ 4 ∷ 8 ∷ []) }
     ∷ record { what = "tags of where the permutation leads"; is = numbers (tab (wiredTag 17 2 circuit) 6); should = numbers (1 ∷ 14 ∷ 3 ∷ 9 ∷ 16 ∷ 8 ∷ []) }
     ∷ record { what = "selectors and wired tags as polynomials"; is = numbers (prepared 17 2 circuit); should = numbers (9 ∷ 8 ∷ 9 ∷ 8 ∷ 16 ∷ 0 ∷ 9 ∷ 9 ∷ 0 ∷ 0 ∷ 16 ∷ 2 ∷ 6 ∷ 14 ∷ 12 ∷ 4 ∷ []) }
     ∷ record { what = "qL × a"; is = numbers (reduced 17 3 (mulP (pre 0) (wire 0))); should = numbers (2 ∷ 14 ∷ 1 ∷ []) }
@@ -112,4 +113,4 @@ table =
 
 pub by-hand : All (λ r. r .is ≡ r .should) table
 unfolding tab powF first inverse reduced remainderVanishing generator root point multiplier tag evaluation interpolation strided passed lentWitness permutation rowN rowD rowZ polyN polyD polyL gatePart stepPart startPart polyF prepared polynomialOf evaluationsOf mixtureOf
-by-hand = refl & refl & refl & refl & refl & refl & refl & refl & refl & refl & refl & refl & refl & refl & refl & refl & refl & refl & refl & refl & refl & refl & refl & refl & refl & refl & refl & refl & refl & refl & refl & refl & refl & refl & refl & refl & refl & refl & refl & refl & refl & refl & tt
+by-hand = refl & refl & refl & refl & refl & refl & refl & refl & refl & refl & refl & refl & refl & refl & refl & refl & refl & refl & refl & refl & refl & refl & refl & refl & refl & refl & refl & refl & refl & refl & refl & refl & refl & refl & refl & refl & refl & refl & refl & refl & refl & refl & refl & tt
