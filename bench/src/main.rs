@@ -5,12 +5,13 @@
 //
 // The parts, of which those named behind `--` are run, or all if none is:
 //
-//     compare   holds both to the sheet of document 01, and their transforms of every size to the values at the points; then lends the same inputs to both,
-//               many of them, short and long, valid and damaged, and compares every word of every buffer afterwards, those that a call only reads and
-//               the words around each lent part among them
+//     compare   holds both to the sheet of document 01, their transforms of every size to the values at the points, and their provers of every size to one
+//               whose products are made row by row; then lends the same inputs to both, many of them, short and long, valid and damaged, and compares
+//               every word of every buffer afterwards, those that a call only reads and the words around each lent part among them
 //     header    compares include/guppyspoon.h with the library's source, and compiles and runs the C programs that include it
 //     stack     prints the stack that each call takes at its largest size, beside what the header says
 //     measure   prints the time of each call on both sides and the ratio
+//     growth    prints the same of prove at every number of rows, from 2 to 1,024
 //
 // Behind `--` a number multiplies the number of cases, and a folder has its files that end in .sheet compared too, read and deposited, and the texts
 // with its files that end in .out. The exit status is 1 if anything differs, or the header says too little of a call's stack.
@@ -29,6 +30,7 @@ mod opening_cases;
 mod openings;
 mod plain;
 mod polynomials;
+mod products;
 mod random;
 mod rows;
 mod sheet_cases;
@@ -37,7 +39,7 @@ mod sheets;
 mod stack;
 mod transforms;
 
-const PARTS: [&str; 4] = ["compare", "header", "stack", "measure"];
+const PARTS: [&str; 5] = ["compare", "header", "stack", "measure", "growth"];
 
 fn main() {
     let words: Vec<String> = std::env::args().skip(1).collect();
@@ -48,6 +50,7 @@ fn main() {
     if says("compare") {
         differences += document::run();
         differences += transforms::run();
+        differences += products::run();
         differences += compare::run(times);
         differences += sheet_compare::run(times);
     }
@@ -62,6 +65,9 @@ fn main() {
     }
     if says("measure") {
         measure::run();
+    }
+    if says("growth") {
+        measure::growth();
     }
     if differences > 0 {
         println!("{differences} differences");

@@ -2,7 +2,7 @@
 use crate::calls;
 use crate::cases::Circuit;
 use crate::kinds::{plainly, proved, Case, Kind};
-use crate::numbers::LARGEST;
+use crate::numbers::{field, LARGEST};
 use crate::random::Random;
 use crate::sheet_cases::sheet_of;
 use crate::sheets::{self, LENGTHS, MOST_ROWS, TEXT};
@@ -95,10 +95,14 @@ fn measure_deposit(n: u32, sheet: &[u8]) {
     assert!(answer[0] == 0 && one == other);
 }
 
+fn head(title: &str) {
+    println!("\n{title}, p = {LARGEST}, microseconds for one call, best of 15 or more batches");
+    println!("{:<12} {:>6} {:>12} {:>12} {:>8}", "call", "n", "proved", "plain", "ratio");
+}
+
 pub fn run() {
     let mut r = Random::new(64);
-    println!("\nmeasuring, p = {LARGEST}, microseconds for one call, best of 15 or more batches");
-    println!("{:<12} {:>6} {:>12} {:>12} {:>8}", "call", "n", "proved", "plain", "ratio");
+    head("measuring");
     for n in [64, 256, 1024] {
         let circuit = Circuit::proved(&mut r, LARGEST, n);
         for kind in [
@@ -118,5 +122,17 @@ pub fn run() {
             measure_read(n, &sheet);
             measure_deposit(n, &sheet);
         }
+    }
+}
+
+// How the time of `prove` grows with n.
+pub fn growth() {
+    let mut r = Random::new(1024);
+    let (_, most) = field(LARGEST).unwrap();
+    head("n against time");
+    let mut n = 2;
+    while n <= most {
+        measure_case(&Circuit::proved(&mut r, LARGEST, n).case(&mut r, Kind::Prove));
+        n *= 2;
     }
 }

@@ -13,6 +13,7 @@ pub mod Sums
 pub mod Unity
 pub mod PolynomialLaws
 pub mod Same
+pub mod Convolution
 pub mod Counting
 pub mod Products
 pub mod Roots

@@ -18,7 +18,7 @@ fn exchange(slots: &mut [u32], at: usize, number: u32) -> u32
 }
 
 // The first pass: each label's slot gets its lowest position, as the last that is put there.
-fn lowest(labels: &[u32], slots: &mut [u32])
+pub fn lowest(labels: &[u32], slots: &mut [u32])
     requires { ⌜ Labels (now labels) × (length (now labels) ≤ length (now slots)) ⌝ }
     ensures { λ _. ⌜ Ahead (now (labels .entry)) (length (now (labels .entry))) (now (slots .exit)) ⌝ }
 {

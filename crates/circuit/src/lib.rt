@@ -17,6 +17,7 @@ mod tags;
 mod witness;
 
 pub use copies::fill_permutation;
+pub use copies::lowest;
 pub use lengths::labels_length;
 pub use lengths::opening_length;
 pub use lengths::prepared_length;

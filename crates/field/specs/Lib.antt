@@ -2,6 +2,7 @@
 pub mod Fields
 pub mod Reasons
 pub mod Primes
+pub mod Rooted
 pub mod Domain
 pub mod ReasonLaws
 pub mod Lent
