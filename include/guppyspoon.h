@@ -87,9 +87,9 @@ extern "C" {
 #define GUPPYSPOON_CHECK_POINT_STACK 24576
 #define GUPPYSPOON_OPEN_STACK 8192
 #define GUPPYSPOON_CHECK_OPENING_STACK 8192
-#define GUPPYSPOON_PROVE_STACK 131072
+#define GUPPYSPOON_PROVE_STACK 245760
 #define GUPPYSPOON_READ_STACK 32768
-#define GUPPYSPOON_DEPOSIT_STACK 180224
+#define GUPPYSPOON_DEPOSIT_STACK 294912
 
 /* Word 0 of an answer: accepted, or the first of the call's reasons, in the order in which they are named at the call, that applies. Word 1 is the
  * detail, 0 unless named here. */

@@ -1,4 +1,4 @@
-// Arrays with room for the greatest number of rows, for a caller that lends parts of them on. What they hold does not matter.
+// Arrays with room for the greatest number of rows, or for the largest domain, for a caller that lends parts of them on. What they hold does not matter.
 ghost use mathlib.Core.Path.{_≡_};
 ghost use lib.ListN.{length};
 
@@ -23,7 +23,7 @@ pub fn blank_3072() -> [u32; 3072]
     [0; 3072]
 }
 
-// A word for each coefficient of the prepared circuit.
+// A word for each coefficient of the prepared circuit, or for each point of the largest domain.
 pub fn blank_8192() -> [u32; 8192]
     ensures { λ r. ⌜ 8192 ≡ length r ⌝ }
 {
