@@ -13,7 +13,7 @@ use lib.ListN.{length, length-append}
 use borrow.Author.Tests.{eqb-true}
 use Rattle.algebra.specs.PolynomialLaws.{length-reduced}
 use Rattle.field.specs.Reasons.{isAccepted}
-use Rattle.circuit.specs.Circuit.{Circuit, position}
+use Rattle.circuit.specs.Circuit.{Constraints, position}
 use Rattle.circuit.specs.Buffers.{quotientLength}
 use Rattle.protocol.specs.Protocol.{rowZ, wiresOf, zOf, tOf, quotient, PointVerdict, accept, reject, pointVerdict, prepared, proved}
 use Rattle.protocol.specs.Lengths.{interpolation-length}
@@ -35,7 +35,7 @@ verdict-long : (v : PointVerdict) → length (verdictText v) ≡ 7
 verdict-long accept = refl
 verdict-long reject = refl
 
-module _ (p n : ℕ) (C : Circuit) (x v : ℕ → ℕ) (beta gamma alpha zeta : ℕ) (few : n ≤ 256) where
+module _ (p n : ℕ) (C : Constraints) (x v : ℕ → ℕ) (beta gamma alpha zeta : ℕ) (few : n ≤ 256) where
   abbrev z : List ℕ
   z = zOf p n C v beta gamma
 

@@ -22,7 +22,7 @@ use lib.ListN.{getD, take, replicate}
 use Rattle.field.specs.declared.Answer.{Answer}
 use Rattle.field.specs.Reasons.{answerOf, isAccepted}
 use Rattle.transform.specs.Transform.{scratchLength}
-use Rattle.circuit.specs.Circuit.{Circuit, lentCircuit, lentPublic, lentWitness}
+use Rattle.circuit.specs.Circuit.{Constraints, lentConstraints, lentPublic, lentWitness}
 use Rattle.circuit.specs.Buffers.{transcriptLength, wirePart, zPart, tPart}
 use Rattle.protocol.specs.Protocol.{prepared, wiresOf, zOf, tOf, proved, PointVerdict, accept, reject, pointVerdict, proveReasons}
 use Rattle.pointcheck.specs.declared.Judged.{Judged}
@@ -75,7 +75,7 @@ transcriptText n transcript =
 -- THE TEXT OF A DEPOSIT
 
 -- the five polynomials and the point verdict on them, of a circuit, public inputs, a witness and beta, gamma, alpha, zeta
-unfoldable pub provedText : ℕ → ℕ → Circuit → (ℕ → ℕ) → (ℕ → ℕ) → ℕ → ℕ → ℕ → ℕ → List ℕ
+unfoldable pub provedText : ℕ → ℕ → Constraints → (ℕ → ℕ) → (ℕ → ℕ) → ℕ → ℕ → ℕ → ℕ → List ℕ
 provedText p n C x v beta gamma alpha zeta =
     letterLine 97 (wiresOf p n v 0) ++ (letterLine 98 (wiresOf p n v 1) ++ letterLine 99 (wiresOf p n v 2))
     ++ (letterLine 122 (zOf p n C v beta gamma) ++ letterLine 116 (tOf p n C x v beta gamma alpha))
@@ -91,5 +91,5 @@ unfoldable pub workText : (p n l : ℕ) (selectors labels witness publics challe
 workText p n l selectors labels witness publics challenges =
     let r : Answer = workAnswer p n l selectors labels witness publics challenges in
     cond (isAccepted r)
-    (provedText p n (lentCircuit n selectors labels) (lentPublic publics) (lentWitness n witness) (getD challenges 0 0) (getD challenges 1 0) (getD challenges 2 0) (getD challenges 3 0))
+    (provedText p n (lentConstraints n selectors labels) (lentPublic publics) (lentWitness n witness) (getD challenges 0 0) (getD challenges 1 0) (getD challenges 2 0) (getD challenges 3 0))
     (refusedText (r .number) (r .detail))

@@ -31,9 +31,9 @@ use Rattle.field.specs.Fields.{Admissible}
 use Rattle.field.specs.Primes.{field-prime, rows-power}
 use Rattle.field.specs.Reasons.{answerOf, isAccepted}
 use Rattle.transform.specs.Transform.{scratchLength}
-use Rattle.circuit.specs.Circuit.{Circuit, lentCircuit, lentPublic, lentWitness}
+use Rattle.circuit.specs.Circuit.{Constraints, lentConstraints, lentPublic, lentWitness}
 use Rattle.circuit.specs.Buffers.{preparedLength, transcriptLength}
-use Rattle.circuit.specs.RightlyLent.{RightCircuit, RightPublics, prepare-taken, point-taken}
+use Rattle.circuit.specs.RightlyLent.{RightCircuit, prepare-taken, point-taken}
 use Rattle.protocol.specs.Protocol.{prepared, wiresOf, zOf, tOf, proved, PointVerdict, accept, reject, pointVerdict, proveReasons}
 use Rattle.protocol.specs.Layout.{prepared-elements, wire-part, z-part, t-part, proved-elements}
 use Rattle.protocol.specs.Lengths.{interpolation-length}
@@ -54,7 +54,8 @@ pub record Lays (p n l : ℕ) (selectors labels witness publics challenges trans
 pub record Judgeable (p n l : ℕ) (publics prepared transcript challenges : List ℕ) : Type 0 where
   pub few : n ≤ 256
   pub admissible : Admissible p n
-  pub publics-right : RightPublics p n l publics
+  pub publics-few : l ≤ n
+  pub publics-right : Elements p l publics
   pub prepared-right : Elements p (preparedLength n) prepared
   pub transcript-right : Elements p (transcriptLength n) transcript
   pub challenges-right : Elements p 4 challenges
@@ -62,8 +63,8 @@ pub record Judgeable (p n l : ℕ) (publics prepared transcript challenges : Lis
 pub record Checkable (p n l : ℕ) (selectors labels publics transcript challenges : List ℕ) : Type 0 where
   pub few : n ≤ 256
   pub admissible : Admissible p n
-  pub circuit-right : RightCircuit p n selectors labels
-  pub publics-right : RightPublics p n l publics
+  pub circuit-right : RightCircuit p n l selectors labels
+  pub publics-right : Elements p l publics
   pub transcript-right : Elements p (transcriptLength n) transcript
   pub challenges-right : Elements p 4 challenges
 
@@ -75,7 +76,7 @@ pub record Workable (p n : ℕ) (challenges text : List ℕ) : Type 0 where
 
 abbrev pub judgedFrom : ℕ → ℕ → List ℕ → List ℕ → List ℕ → List ℕ → List ℕ → Judged
 judgedFrom p n selectors labels publics transcript challenges =
-    judgedAt p n publics (prepared p n (lentCircuit n selectors labels)) transcript challenges
+    judgedAt p n publics (prepared p n (lentConstraints n selectors labels)) transcript challenges
 
 abbrev pub checkedText : ℕ → ℕ → List ℕ → List ℕ → List ℕ → List ℕ → List ℕ → List ℕ
 checkedText p n selectors labels publics transcript challenges =
@@ -96,7 +97,7 @@ judged-verdict accept = refl
 judged-verdict reject = refl
 
 -- the text of a laid transcript, whatever the transcript is called
-laid-text : (p n : ℕ) (C : Circuit) (x v : ℕ → ℕ) (beta gamma alpha zeta : ℕ)
+laid-text : (p n : ℕ) (C : Constraints) (x v : ℕ → ℕ) (beta gamma alpha zeta : ℕ)
     → transcriptText n (proved p n C x v beta gamma alpha)
     ++ judgedText (judgedAs (pointVerdict p n (prepared p n C) x (proved p n C x v beta gamma alpha) beta gamma alpha zeta))
     ≡ provedText p n C x v beta gamma alpha zeta
@@ -148,7 +149,7 @@ module _ (p n l : ℕ) (selectors labels witness publics challenges : List ℕ) 
         circuit-right = A .circuit-right;
         publics-right = A .publics-right;
         transcript-right =
-            proved-elements p n (lentCircuit n selectors labels) (lentPublic publics) (lentWitness n witness) _ _ _
+            proved-elements p n (lentConstraints n selectors labels) (lentPublic publics) (lentWitness n witness) _ _ _
             (omega (arith, field-prime p (A .admissible .one-of-three) .two))
             (omega (arith, W .some));
         challenges-right = W .challenges-right;
@@ -165,7 +166,7 @@ module _ (p n l : ℕ) (selectors labels witness publics challenges : List ℕ) 
         getD-take 3 challenges 2 0 (omega arith),
         eq-eqb (workAnswer p n l selectors labels witness publics challenges .number) 0 e,
       )
-      (laid-text p n (lentCircuit n selectors labels) (lentPublic publics) (lentWitness n witness) (getD challenges 0 0) (getD challenges 1 0) (getD challenges 2 0) (getD challenges 3 0))
+      (laid-text p n (lentConstraints n selectors labels) (lentPublic publics) (lentWitness n witness) (getD challenges 0 0) (getD challenges 1 0) (getD challenges 2 0) (getD challenges 3 0))
 
   pub refused-text : (r : Answer) → r ≡ workAnswer p n l selectors labels witness publics challenges → r .number ≢ 0
       → refusedText (r .number) (r .detail) ≡ workText p n l selectors labels witness publics challenges
@@ -175,13 +176,13 @@ module _ (p n l : ℕ) (selectors labels witness publics challenges : List ℕ) 
       ap isAccepted (sym e) ∙ ne-eqb (r .number) 0 h in
       rw (no, e)
 
-pub prepared-of : {p n : ℕ} (selectors labels written scratch : List ℕ) (r : Answer) (written' scratch' : List ℕ)
-    → Admissible p n → RightCircuit p n selectors labels → length written ≡ preparedLength n → length scratch ≡ scratchLength n
-    → Prepares p n selectors labels written scratch r written' scratch'
-    → written' ≡ prepared p n (lentCircuit n selectors labels)
-prepared-of {p} {n} selectors labels written scratch r written' scratch' A C e f P =
+pub prepared-of : {p n l : ℕ} (selectors labels written scratch : List ℕ) (r : Answer) (written' scratch' : List ℕ)
+    → Admissible p n → RightCircuit p n l selectors labels → length written ≡ preparedLength n → length scratch ≡ scratchLength n
+    → Prepares p n l selectors labels written scratch r written' scratch'
+    → written' ≡ prepared p n (lentConstraints n selectors labels)
+prepared-of {p} {n} {l} selectors labels written scratch r written' scratch' A C e f P =
     P .prepares
-    ∙ ap (λ (a : Answer). cond (isAccepted a) (prepared p n (lentCircuit n selectors labels)) written)
+    ∙ ap (λ (a : Answer). cond (isAccepted a) (prepared p n (lentConstraints n selectors labels)) written)
     (P .answer ∙ prepare-taken A written scratch C e f)
 
 pub judged-of : {p n l : ℕ} {publics prepared transcript challenges : List ℕ} (scratch : List ℕ) (r : PointAnswer) (scratch' : List ℕ)
@@ -191,18 +192,19 @@ pub judged-of : {p n l : ℕ} {publics prepared transcript challenges : List ℕ
 judged-of {p} {n} {l} {publics} {prepared} {transcript} {challenges} scratch r scratch' J e P =
     P .verdict
     ∙ ap (λ (a : Answer). cond (isAccepted a) (judgedAt p n publics prepared transcript challenges) None)
-    (P .answer ∙ point-taken (J .admissible) scratch (J .publics-right) (J .prepared-right) (J .transcript-right) (J .challenges-right) e)
+    (P .answer ∙ point-taken (J .admissible) scratch (J .publics-few) (J .publics-right) (J .prepared-right) (J .transcript-right) (J .challenges-right) e)
 
 pub judgeable-of : {p n l : ℕ} {selectors labels publics transcript challenges : List ℕ}
     → Checkable p n l selectors labels publics transcript challenges
-    → Judgeable p n l publics (prepared p n (lentCircuit n selectors labels)) transcript challenges
+    → Judgeable p n l publics (prepared p n (lentConstraints n selectors labels)) transcript challenges
 judgeable-of {p} {n} {l} {selectors} {labels} {publics} {transcript} {challenges} K =
     record {
       few = K .few;
       admissible = K .admissible;
+      publics-few = K .circuit-right .circuit .publics-few;
       publics-right = K .publics-right;
       prepared-right =
-          prepared-elements p n (lentCircuit n selectors labels) (omega (arith, field-prime p (K .admissible .one-of-three) .two));
+          prepared-elements p n (lentConstraints n selectors labels) (omega (arith, field-prime p (K .admissible .one-of-three) .two));
       transcript-right = K .transcript-right;
       challenges-right = K .challenges-right;
     }

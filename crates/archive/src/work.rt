@@ -3,7 +3,7 @@ ghost use mathlib.Core.Path.{_≡_};
 ghost use Prim.Native.Nat.{_≤_};
 ghost use lib.ListN.{length};
 ghost use Rattle.field.specs.Fields.{Admissible};
-ghost use Rattle.circuit.specs.Circuit.{lentCircuit};
+ghost use Rattle.circuit.specs.Circuit.{lentConstraints};
 ghost use Rattle.circuit.specs.Buffers.{preparedLength, transcriptLength};
 ghost use Rattle.circuit.specs.RightlyLent.{RightCircuit};
 ghost use Rattle.protocol.specs.Protocol.{prepared as Protocol·prepared};
@@ -52,14 +52,14 @@ fn lay(
 }
 
 // The prepared circuit.
-fn prepare(p: u32, n: u32, selectors: &[u32], labels: &[u32], prepared: &mut [u32])
-    requires { ⌜ (n ≤ 256) × Admissible p n × RightCircuit p n (now selectors) (now labels) × (length (now prepared) ≡ preparedLength n) ⌝ }
-    ensures { λ _. ⌜ now (prepared .exit) ≡ Protocol·prepared p n (lentCircuit n (now (selectors .entry)) (now (labels .entry))) ⌝ }
+fn prepare(p: u32, n: u32, l: u32, selectors: &[u32], labels: &[u32], prepared: &mut [u32])
+    requires { ⌜ (n ≤ 256) × Admissible p n × RightCircuit p n l (now selectors) (now labels) × (length (now prepared) ≡ preparedLength n) ⌝ }
+    ensures { λ _. ⌜ now (prepared .exit) ≡ Protocol·prepared p n (lentConstraints n (now (selectors .entry)) (now (labels .entry))) ⌝ }
 {
     let m = n as usize;
     let end = transform::scratch_length(m);
     let mut scratch = blanks::blank_4096();
-    preparing::prepare(p, n, selectors, labels, prepared, &mut scratch[..end]);
+    preparing::prepare(p, n, l, selectors, labels, prepared, &mut scratch[..end]);
 }
 
 // The point verdict on a transcript and a prepared circuit.
@@ -108,7 +108,7 @@ fn judge(
     let m = n as usize;
     let end = circuit::prepared_length(m);
     let mut prepared = field::blank_2048();
-    prepare(p, n, selectors, labels, &mut prepared[..end]);
+    prepare(p, n, l, selectors, labels, &mut prepared[..end]);
     check(p, n, l, publics, &prepared[..end], transcript, challenges)
 }
 

@@ -1,21 +1,25 @@
 -- The circuit, its permutation and its gates (document 01, "Circuit, wiring and contents").
 --
 -- position n c i            the position of column c and row i: c × n + i
--- Circuit                   the selectors of a row and the label of a position
--- lentCircuit n s l         the circuit in lent selectors and labels, column after column
+-- Constraints               the selectors of a row and the label of a position (001: the constraint system)
+-- isPublic qL qR qO qM qC   these are the selectors of a public row: qL is 1, the others are 0, so that its gate is a - x
+-- isPublicRow C i           those of row i are
+-- Circuit p n l C           C is a circuit of n rows with l public inputs: the selectors of a row are elements, the label of a position is below 3n,
+--                           and the rows below l are public rows
+-- lentConstraints n s l     the constraints in lent selectors and labels, column after column
 -- lentWitness n w k         the wire value of position k, in a lent witness (document 01: the contents), which is lent column after column
 -- laidWitness n v           the wire values v of the 3n positions, as they are lent
 -- lentPublic x              the public input of a row, in lent public inputs (document 01: public numbers); 0 past their end
 -- permutation m label k     where the copy permutation leads from position k (document 01: the wiring): the next higher of the m positions with
 --                           its label, from the highest to the lowest; a lone position leads to itself
 -- gate p n C x v i          the gate of row i: qL×a + qR×b + qO×c + qM×a×b + qC - x
--- Satisfies p n C x v       the witness satisfies the circuit: each gate holds, and positions of equal label agree
+-- Satisfies p n C x v       the witness satisfies the constraints: each gate holds, and positions of equal label agree
 --
 -- Assumes nothing.
 use mathlib.Core.Path.{_≡_}
-use mathlib.Core.Bool.{true, false}
+use mathlib.Core.Bool.{Bool, true, false, _&&_}
 use mathlib.Core.List.{List}
-use Prim.Native.Nat.{ℕ, suc, _+_, _*_, _%_, _-_, _<_, pred}
+use Prim.Native.Nat.{ℕ, suc, _+_, _*_, _%_, _-_, _≤_, _<_, pred}
 use lib.Dec.{eqb, ltb}
 use lib.ListN.{getD}
 use Rattle.algebra.specs.Modular.{first}
@@ -24,7 +28,7 @@ use Rattle.algebra.specs.Lists.{tab}
 abbrev pub position : ℕ → ℕ → ℕ → ℕ
 position n c i = c * n + i
 
-pub record Circuit : Type 0 where
+pub record Constraints : Type 0 where
   pub qL : ℕ → ℕ
   pub qR : ℕ → ℕ
   pub qO : ℕ → ℕ
@@ -32,8 +36,20 @@ pub record Circuit : Type 0 where
   pub qC : ℕ → ℕ
   pub label : ℕ → ℕ
 
-abbrev pub lentCircuit : ℕ → List ℕ → List ℕ → Circuit
-lentCircuit n selectors labels =
+abbrev pub isPublic : (qL qR qO qM qC : ℕ) → Bool
+isPublic qL qR qO qM qC = eqb qL 1 && (eqb qR 0 && (eqb qO 0 && (eqb qM 0 && eqb qC 0)))
+
+abbrev pub isPublicRow : Constraints → ℕ → Bool
+isPublicRow C i = isPublic (C .qL i) (C .qR i) (C .qO i) (C .qM i) (C .qC i)
+
+pub record Circuit (p n l : ℕ) (C : Constraints) : Type 0 where
+  pub publics-few : l ≤ n
+  pub selectors : (i : ℕ) → i < n → (C .qL i < p) × (C .qR i < p) × (C .qO i < p) × (C .qM i < p) × (C .qC i < p)
+  pub labels : (k : ℕ) → k < 3 * n → C .label k < 3 * n
+  pub public-rows : (i : ℕ) → i < l → isPublicRow C i ≡ true
+
+abbrev pub lentConstraints : ℕ → List ℕ → List ℕ → Constraints
+lentConstraints n selectors labels =
     record {
       qL = λ i. getD selectors (position n 0 i) 0;
       qR = λ i. getD selectors (position n 1 i) 0;
@@ -58,13 +74,13 @@ permutation m label k =
     let higher : ℕ = first (λ j. eqb (label j) (label k)) (suc k) (m - suc k) in
     elim (ltb higher m) [ true ↦ higher | false ↦ first (λ j. eqb (label j) (label k)) 0 m ]
 
-unfoldable pub gate : ℕ → ℕ → Circuit → (ℕ → ℕ) → (ℕ → ℕ) → ℕ → ℕ
+unfoldable pub gate : ℕ → ℕ → Constraints → (ℕ → ℕ) → (ℕ → ℕ) → ℕ → ℕ
 gate p n C x v i =
     let a : ℕ = v (position n 0 i) in
     let b : ℕ = v (position n 1 i) in
     let c : ℕ = v (position n 2 i) in
     (C .qL i * a + C .qR i * b + C .qO i * c + C .qM i * a * b + C .qC i + pred p * x i) % p
 
-pub record Satisfies (p n : ℕ) (C : Circuit) (x v : ℕ → ℕ) : Type 0 where
+pub record Satisfies (p n : ℕ) (C : Constraints) (x v : ℕ → ℕ) : Type 0 where
   pub gates : (i : ℕ) → i < n → gate p n C x v i ≡ 0
   pub copies : (j k : ℕ) → j < 3 * n → k < 3 * n → C .label j ≡ C .label k → v j ≡ v k

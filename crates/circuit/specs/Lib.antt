@@ -9,4 +9,5 @@ pub mod Positions
 pub mod Parts
 pub mod Witness
 pub mod Permutation
+pub mod PublicBound
 pub mod RightlyLent

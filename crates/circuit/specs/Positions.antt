@@ -1,12 +1,12 @@
 -- The position of a column and a row: position = column × n + row.
 --
 -- position-column, position-row   the column and the row of a position
--- by-position                     what holds at each column and row holds at each of the 3n positions
+-- by-position                     what holds at each of m columns and n rows holds at each of the m × n positions
 -- product-by-rows                 the product over the positions, row by row
 --
 -- Assumes nothing.
 use mathlib.Core.Path.{_≡_, sym, ap, _∙_, subst}
-use Prim.Native.Nat.{ℕ, _+_, _*_, _/_, _%_, _<_}
+use Prim.Native.Nat.{ℕ, zero, suc, _+_, _*_, _/_, _%_, _<_}
 use native.Mathlib.Nat.{mod-lt, mod-eq-of-lt, mul-add-div-right, mul-add-mod-self-right, div-eq-of-lt, div-add-mod', div-lt-iff-lt-mul}
 use native.Mathlib.Omega.{arith}
 use Rattle.algebra.specs.Lists.{prodN}
@@ -19,10 +19,12 @@ position-column n c i l = mul-add-div-right (omega arith) c i ∙ rw (div-eq-of-
 pub position-row : (n c i : ℕ) → i < n → position n c i % n ≡ i
 position-row n c i l = mul-add-mod-self-right c n i ∙ mod-eq-of-lt l
 
-pub by-position : (n : ℕ) (A : ℕ → Type 0) → ((c i : ℕ) → c < 3 → i < n → A (position n c i)) → (k : ℕ) → k < 3 * n → A k
-by-position n A h k l =
-    let z : 0 < n = omega arith in
-    subst A (div-add-mod' k n) (h (k / n) (k % n) (div-lt-iff-lt-mul z .1 l) (mod-lt k z))
+pub by-position : (m n : ℕ) (A : ℕ → Type 0) → ((c i : ℕ) → c < m → i < n → A (position n c i)) → (k : ℕ) → k < m * n → A k
+by-position m n A h k l = subst A (div-add-mod' k n) (h (k / n) (k % n) (div-lt-iff-lt-mul (some n l) .1 l) (mod-lt k (some n l)))
+  where
+    some : (n : ℕ) → k < m * n → 0 < n
+    some zero l = absurd (omega arith)
+    some (suc n) l = omega arith
 
 pub product-by-rows : (n : ℕ) (f : ℕ → ℕ)
     → prodN (3 * n) f ≡ prodN n (λ i. f (position n 0 i) * f (position n 1 i) * f (position n 2 i))

@@ -1,9 +1,11 @@
--- The reasons for turning down a call that is lent a circuit or its polynomials, in document 01's order. Each call has the table of the lengths
--- due, its buffers in the order in which they are counted; then all its reasons: those of p, n, l and the lengths (2, 3, 4, 6), and those of the
--- numbers in the buffers (7, 8).
+-- The reasons for turning down a call that is lent a circuit or its polynomials, in document 01's order, with document 02's 14 behind 8. Each call
+-- has the table of the lengths due, its buffers in the order in which they are counted; then all its reasons: those of p, n, l and the lengths
+-- (2, 3, 4, 6), and those of the numbers in the buffers (7, 8, 14).
 --
 -- badLabel n labels         8: a label is 3n or more; detail: the lowest such position
--- numberReasons p n xs labels   7 and 8, for the elements end to end and the labels
+-- unboundRow C l            the lowest row below l that is no public row; l where each is one
+-- badPublicRow C l          14: a row below l is no public row; detail: the lowest such row
+-- numberReasons p n l xs selectors labels   7, 8 and 14, for the elements end to end, the selectors and the labels
 -- permutationDue, permutationReasons   of `permutation`
 -- prepareDue, prepareReasons           of `prepare`
 -- rowsDue, rowsReasons                 of `check_rows`
@@ -11,18 +13,28 @@
 -- proveDue, proveBufferReasons         of `prove`, but for those that look at the witness (9, 10, 11)
 --
 -- Assumes nothing.
+use mathlib.Core.Bool.{not}
 use mathlib.Core.List.{List, [], _∷_, _++_}
 use Prim.Native.Nat.{ℕ, _*_}
 use lib.ListN.{length}
+use Rattle.algebra.specs.Modular.{first}
 use Rattle.field.specs.Reasons.{Reason, lentReasons, reasonAt, firstAbove, badElement}
 use Rattle.transform.specs.Transform.{scratchLength}
+use Rattle.circuit.specs.Circuit.{Constraints, isPublicRow, lentConstraints}
 use Rattle.circuit.specs.Buffers.{selectorsLength, labelsLength, witnessLength, preparedLength, transcriptLength}
 
 abbrev pub badLabel : ℕ → List ℕ → Reason
 badLabel n labels = reasonAt 8 (firstAbove (3 * n) labels) (length labels)
 
-abbrev pub numberReasons : (p n : ℕ) (elements labels : List ℕ) → List Reason
-numberReasons p n elements labels = badElement p elements ∷ badLabel n labels ∷ []
+unfoldable pub unboundRow : Constraints → ℕ → ℕ
+unboundRow C l = first (λ i. not (isPublicRow C i)) 0 l
+
+abbrev pub badPublicRow : Constraints → ℕ → Reason
+badPublicRow C l = reasonAt 14 (unboundRow C l) l
+
+abbrev pub numberReasons : (p n l : ℕ) (elements selectors labels : List ℕ) → List Reason
+numberReasons p n l elements selectors labels =
+    badElement p elements ∷ badLabel n labels ∷ badPublicRow (lentConstraints n selectors labels) l ∷ []
 
 -- `permutation`: labels, positions
 abbrev pub permutationDue : ℕ → List ℕ
@@ -36,10 +48,10 @@ permutationReasons p n labels positions =
 abbrev pub prepareDue : ℕ → List ℕ
 prepareDue n = selectorsLength n ∷ labelsLength n ∷ preparedLength n ∷ scratchLength n ∷ []
 
-abbrev pub prepareReasons : (p n : ℕ) (selectors labels prepared scratch : List ℕ) → List Reason
-prepareReasons p n selectors labels prepared scratch =
-    lentReasons p n 0 (length selectors ∷ length labels ∷ length prepared ∷ length scratch ∷ []) (prepareDue n)
-    ++ numberReasons p n selectors labels
+abbrev pub prepareReasons : (p n l : ℕ) (selectors labels prepared scratch : List ℕ) → List Reason
+prepareReasons p n l selectors labels prepared scratch =
+    lentReasons p n l (length selectors ∷ length labels ∷ length prepared ∷ length scratch ∷ []) (prepareDue n)
+    ++ numberReasons p n l selectors selectors labels
 
 -- `check_rows`: selectors, labels, witness, public inputs, row values of z, challenges
 abbrev pub rowsDue : (n l : ℕ) → List ℕ
@@ -48,7 +60,7 @@ rowsDue n l = selectorsLength n ∷ labelsLength n ∷ witnessLength n ∷ l ∷
 abbrev pub rowsReasons : (p n l : ℕ) (selectors labels witness publics z challenges : List ℕ) → List Reason
 rowsReasons p n l selectors labels witness publics z challenges =
     lentReasons p n l (length selectors ∷ length labels ∷ length witness ∷ length publics ∷ length z ∷ length challenges ∷ []) (rowsDue n l)
-    ++ numberReasons p n (selectors ++ (witness ++ (publics ++ (z ++ challenges)))) labels
+    ++ numberReasons p n l (selectors ++ (witness ++ (publics ++ (z ++ challenges)))) selectors labels
 
 -- `check_point`: public inputs, prepared circuit, transcript, challenges, scratch
 abbrev pub pointDue : (n l : ℕ) → List ℕ
@@ -68,4 +80,4 @@ proveBufferReasons p n l selectors labels witness publics transcript challenges 
     lentReasons p n l
     (length selectors ∷ length labels ∷ length witness ∷ length publics ∷ length transcript ∷ length challenges ∷ length scratch ∷ [])
     (proveDue n l)
-    ++ numberReasons p n (selectors ++ (witness ++ (publics ++ challenges))) labels
+    ++ numberReasons p n l (selectors ++ (witness ++ (publics ++ challenges))) selectors labels

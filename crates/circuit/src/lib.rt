@@ -13,6 +13,7 @@ mod lengths;
 mod parts;
 mod publics;
 mod reasons;
+mod selectors;
 mod tags;
 mod witness;
 
@@ -34,6 +35,8 @@ pub use parts::z_part;
 pub use publics::public_of;
 pub use publics::public_polynomial;
 pub use reasons::decide_numbers;
+pub use selectors::is_public;
+pub use selectors::selector_of;
 pub use tags::factor_of;
 pub use tags::multiplier_of;
 pub use tags::own_tags;

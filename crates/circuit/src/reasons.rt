@@ -1,10 +1,12 @@
 // Reasons for turning a call down that several calls share. Nothing is written.
 ghost use mathlib.Core.Path.{_≡_};
-ghost use mathlib.Core.List.{[], _∷_};
-ghost use Prim.Native.Nat.{_≤_};
+ghost use mathlib.Core.List.{List, [], _∷_};
+ghost use Prim.Native.Nat.{ℕ, _≤_};
 ghost use lib.ListN.{length};
 ghost use Rattle.field.specs.Reasons.{answerOf, reasonAt};
-ghost use Rattle.circuit.specs.Reasons.{badLabel};
+ghost use Rattle.circuit.specs.Circuit.{lentConstraints};
+ghost use Rattle.circuit.specs.Buffers.{selectorsLength};
+ghost use Rattle.circuit.specs.Reasons.{badLabel, badPublicRow};
 use field::Answer;
 
 // The reason of the labels, 8.
@@ -15,15 +17,47 @@ pub fn decide_labels(n: u32, labels: &[u32]) -> Answer
     field::decide_at(8, field::first_above(3 * n, labels), labels.len())
 }
 
-// The reasons of the numbers in the buffers, 7 and 8. `at` is the place of the first number that is p or more, among `count`; `count` stands for none.
-pub fn decide_numbers(n: u32, at: usize, count: usize, labels: &[u32]) -> Answer
-    requires { ⌜ (n ≤ 1024) × (count ≤ 65536) × (length (now labels) ≤ 65536) ⌝ }
-    ensures { λ r. ⌜ r ≡ answerOf (reasonAt 7 at count ∷ badLabel n (now (labels .entry)) ∷ []) ⌝ }
+// The reason of the public rows, 14.
+fn decide_public_rows(n: u32, l: u32, selectors: &[u32]) -> Answer
+    requires { ⌜ (n ≤ 1024) × (l ≤ n) × (length (now selectors) ≡ selectorsLength n) ⌝ }
+    ensures { λ r. ⌜ ((labels : List ℕ) → r ≡ answerOf (badPublicRow (lentConstraints n (now (selectors .entry)) labels) l ∷ [])) ⌝ }
+{
+    let count = l as usize;
+    let row = super::selectors::unbound_row(n as usize, count, selectors);
+    field::decide_at(14, row, count)
+}
+
+// The reasons of the circuit, 8 and 14.
+fn decide_circuit(n: u32, l: u32, selectors: &[u32], labels: &[u32]) -> Answer
+    requires { ⌜ (n ≤ 1024) × (l ≤ n) × (length (now selectors) ≡ selectorsLength n) × (length (now labels) ≤ 65536) ⌝ }
+    ensures { λ r. ⌜ r ≡ answerOf (badLabel n (now (labels .entry)) ∷ badPublicRow (lentConstraints n (now (selectors .entry)) (now (labels .entry))) l ∷ []) ⌝ }
+{
+    let first = decide_labels(n, labels);
+    let number = first.number;
+    if number != 0 {
+        return first;
+    }
+    decide_public_rows(n, l, selectors)
+}
+
+// The reasons of the numbers in the buffers, 7, 8 and 14. `at` is the place of the first number that is p or more, among `count`; `count` stands
+// for none.
+pub fn decide_numbers(
+    n: u32,
+    l: u32,
+    at: usize,
+    count: usize,
+    selectors: &[u32],
+    labels: &[u32],
+) -> Answer
+    requires { ⌜ (n ≤ 1024) × (l ≤ n) × (count ≤ 65536) ⌝ }
+    requires { ⌜ (length (now selectors) ≡ selectorsLength n) × (length (now labels) ≤ 65536) ⌝ }
+    ensures { λ r. ⌜ r ≡ answerOf (reasonAt 7 at count ∷ badLabel n (now (labels .entry)) ∷ badPublicRow (lentConstraints n (now (selectors .entry)) (now (labels .entry))) l ∷ []) ⌝ }
 {
     let elements = field::decide_at(7, at, count);
     let number = elements.number;
     if number != 0 {
         return elements;
     }
-    decide_labels(n, labels)
+    decide_circuit(n, l, selectors, labels)
 }

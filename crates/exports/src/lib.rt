@@ -93,15 +93,16 @@ pub extern "C" fn guppyspoon_permutation(
 pub extern "C" fn guppyspoon_prepare(
     p: u32,
     n: u32,
+    l: u32,
     selectors: &[u32],
     labels: &[u32],
     written: &mut [u32],
     scratch: &mut [u32],
     answer: &mut [u32],
 )
-    ensures { λ _. ⌜ Handed answerWords (λ r. Prepares p n (now (selectors .entry)) (now (labels .entry)) (now (written .entry)) (now (scratch .entry)) r (now (written .exit)) (now (scratch .exit))) (now (answer .entry)) (now (answer .exit)) ⌝ }
+    ensures { λ _. ⌜ Handed answerWords (λ r. Prepares p n l (now (selectors .entry)) (now (labels .entry)) (now (written .entry)) (now (scratch .entry)) r (now (written .exit)) (now (scratch .exit))) (now (answer .entry)) (now (answer .exit)) ⌝ }
 {
-    let r = preparing::prepare(p, n, selectors, labels, written, scratch);
+    let r = preparing::prepare(p, n, l, selectors, labels, written, scratch);
     words::put_answer(r, answer);
 }
 

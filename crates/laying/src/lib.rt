@@ -7,7 +7,7 @@ ghost use Prim.Native.Nat.{ℕ};
 ghost use lib.ListN.{length};
 ghost use Rattle.transform.specs.Parts.{laid};
 ghost use Rattle.circuit.specs.Buffers.{zStart, zLength, tStart};
-ghost use Rattle.circuit.specs.Circuit.{lentCircuit, lentWitness};
+ghost use Rattle.circuit.specs.Circuit.{lentConstraints, lentWitness};
 ghost use Rattle.protocol.specs.Protocol.{wiresOf, zOf};
 ghost use Rattle.laying.specs.Rows.{laidRows};
 ghost use Rattle.laying.specs.Buffers.{Ready};
@@ -46,7 +46,7 @@ fn lay_z(
 )
     requires { ⌜ Ready p n (now powers) (now labels) (now witness) ⌝ }
     requires { ⌜ (length (now out) ≡ zLength n) × (length (now spare) ≡ n) ⌝ }
-    ensures { λ _. ⌜ ((selectors : List ℕ) → now (out .exit) ≡ zOf p n (lentCircuit n selectors (now (labels .entry))) (lentWitness n (now (witness .entry))) beta gamma) ⌝ }
+    ensures { λ _. ⌜ ((selectors : List ℕ) → now (out .exit) ≡ zOf p n (lentConstraints n selectors (now (labels .entry))) (lentWitness n (now (witness .entry))) beta gamma) ⌝ }
 {
     grand::z_rows(p, n, labels, witness, beta, gamma, out);
     transform::interpolate_in_place(p, n, powers, out, spare);
@@ -66,7 +66,7 @@ pub fn lay_rows(
 )
     requires { ⌜ Ready p n (now powers) (now labels) (now witness) ⌝ }
     requires { ⌜ (length (now out) ≡ tStart n) × (length (now spare) ≡ n) ⌝ }
-    ensures { λ _. ⌜ ((selectors : List ℕ) → now (out .exit) ≡ laidRows p n (lentCircuit n selectors (now (labels .entry))) (lentWitness n (now (witness .entry))) beta gamma) ⌝ }
+    ensures { λ _. ⌜ ((selectors : List ℕ) → now (out .exit) ≡ laidRows p n (lentConstraints n selectors (now (labels .entry))) (lentWitness n (now (witness .entry))) beta gamma) ⌝ }
 {
     let k = circuit::z_start(n as usize);
     lay_wires(p, n, powers, labels, witness, &mut out[..k], spare);

@@ -12,10 +12,10 @@ use Rattle.circuit.specs.Reasons.{prepareDue, prepareReasons}
 use Rattle.circuit.specs.RightlyLent.{lent-numbers-of}
 use Rattle.preparing.specs.Promises.{Checked}
 
-pub checked : (p n : ℕ) (selectors labels written scratch : List ℕ) → answerOf (prepareReasons p n selectors labels written scratch) .number ≡ 0
+pub checked : (p n l : ℕ) (selectors labels written scratch : List ℕ) → answerOf (prepareReasons p n l selectors labels written scratch) .number ≡ 0
     → Checked p n selectors labels written scratch
-checked p n selectors labels written scratch e =
-    let all = lent-numbers-of p n 0 (length selectors ∷ length labels ∷ length written ∷ length scratch ∷ []) (prepareDue n) selectors labels refl e in
+checked p n l selectors labels written scratch e =
+    let all = lent-numbers-of p n l (length selectors ∷ length labels ∷ length written ∷ length scratch ∷ []) (prepareDue n) selectors selectors labels refl e in
     let lent = all .0 in
     record {
       admissible = lent .admissible;

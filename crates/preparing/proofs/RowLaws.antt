@@ -21,7 +21,7 @@ use Rattle.field.specs.Domain.{tag-lt}
 use Rattle.transform.specs.Transform.{interpolation}
 use Rattle.transform.specs.Interpolation.{interpolation-ext}
 use Rattle.transform.specs.Parts.{laid, interpolated}
-use Rattle.circuit.specs.Circuit.{lentCircuit, permutation, position}
+use Rattle.circuit.specs.Circuit.{lentConstraints, permutation, position}
 use Rattle.circuit.specs.Buffers.{selectorsLength, preparedLength}
 use Rattle.protocol.specs.Protocol.{prepared, wiredTag}
 use Rattle.preparing.specs.Promises.{rowsOf}
@@ -46,7 +46,7 @@ module _ (p n : ℕ) (selectors labels : List ℕ) (l : length selectors ≡ sel
   front-run s h =
       interpolation-ext p n _ _ (λ i k. List·getD-append selectors tags 0 (s * n + i) (omega (arith, l, run-room s 5 n h)))
 
-  back-run : (c : ℕ) → c < 3 → run (5 + c) ≡ interpolation p n (λ i. wiredTag p n (lentCircuit n selectors labels) (position n c i))
+  back-run : (c : ℕ) → c < 3 → run (5 + c) ≡ interpolation p n (λ i. wiredTag p n (lentConstraints n selectors labels) (position n c i))
   back-run c h =
       interpolation-ext p n _ _ (λ i k.
       let at : (5 + c) * n + i ≡ length selectors + (c * n + i) = omega (arith, l) in
@@ -54,7 +54,7 @@ module _ (p n : ℕ) (selectors labels : List ℕ) (l : length selectors ≡ sel
       ∙ getD-append-add selectors tags (c * n + i) 0
       ∙ getD-tab _ (3 * n) (c * n + i) (omega (arith, run-room c 3 n h)))
 
-  pub rows-prepared : interpolated p n (rowsOf p n selectors labels) 8 ≡ prepared p n (lentCircuit n selectors labels)
+  pub rows-prepared : interpolated p n (rowsOf p n selectors labels) 8 ≡ prepared p n (lentConstraints n selectors labels)
   unfolding laid prepared
   rows-prepared =
       rw (

@@ -16,15 +16,15 @@ use Rattle.field.specs.declared.Answer.{Answer}
 use Rattle.field.specs.Fields.{Admissible, tag}
 use Rattle.field.specs.Reasons.{answerOf, isAccepted}
 use Rattle.transform.specs.Transform.{scratchLength}
-use Rattle.circuit.specs.Circuit.{lentCircuit, permutation}
+use Rattle.circuit.specs.Circuit.{lentConstraints, permutation}
 use Rattle.circuit.specs.Buffers.{selectorsLength, labelsLength, preparedLength}
 use Rattle.circuit.specs.Reasons.{prepareReasons}
 use Rattle.protocol.specs.Protocol.{prepared}
 
 -- selectors and labels are only read
-pub record Prepares (p n : ℕ) (selectors labels written scratch : List ℕ) (r : Answer) (written' scratch' : List ℕ) : Type 0 where
-  pub answer : r ≡ answerOf (prepareReasons p n selectors labels written scratch)
-  pub prepares : written' ≡ cond (isAccepted r) (prepared p n (lentCircuit n selectors labels)) written
+pub record Prepares (p n l : ℕ) (selectors labels written scratch : List ℕ) (r : Answer) (written' scratch' : List ℕ) : Type 0 where
+  pub answer : r ≡ answerOf (prepareReasons p n l selectors labels written scratch)
+  pub prepares : written' ≡ cond (isAccepted r) (prepared p n (lentConstraints n selectors labels)) written
   pub cleared : scratch' ≡ cond (isAccepted r) (replicate (scratchLength n) 0) scratch
 
 pub record Checked (p n : ℕ) (selectors labels written scratch : List ℕ) : Type 0 where

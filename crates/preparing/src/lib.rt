@@ -7,7 +7,7 @@ ghost use lib.ListN.{length, replicate};
 ghost use Rattle.algebra.specs.Polynomial.{Elements};
 ghost use Rattle.field.specs.Reasons.{answerOf};
 ghost use Rattle.transform.specs.Transform.{scratchLength};
-ghost use Rattle.circuit.specs.Circuit.{lentCircuit};
+ghost use Rattle.circuit.specs.Circuit.{lentConstraints};
 ghost use Rattle.transform.specs.Points.{Points};
 ghost use Rattle.circuit.specs.Buffers.{selectorsLength, labelsLength, preparedLength};
 ghost use Rattle.circuit.specs.Reasons.{prepareReasons};
@@ -19,22 +19,23 @@ use field::Answer;
 fn decide(
     p: u32,
     n: u32,
+    l: u32,
     selectors: &[u32],
     labels: &[u32],
     written: &[u32],
     scratch: &[u32],
 ) -> Answer
-    ensures { λ r. ⌜ r ≡ answerOf (prepareReasons p n (now (selectors .entry)) (now (labels .entry)) (now (written .entry)) (now (scratch .entry))) ⌝ }
+    ensures { λ r. ⌜ r ≡ answerOf (prepareReasons p n l (now (selectors .entry)) (now (labels .entry)) (now (written .entry)) (now (scratch .entry))) ⌝ }
 {
     let long = [selectors.len(), labels.len(), written.len(), scratch.len()];
     let due = circuit::due::prepare(n as usize);
-    let answer = field::decide_lent(p, n, 0, &long, &due);
+    let answer = field::decide_lent(p, n, l, &long, &due);
     let number = answer.number;
     if number != 0 {
         return answer;
     }
     let at = field::first_above(p, selectors);
-    circuit::decide_numbers(n, at, selectors.len(), labels)
+    circuit::decide_numbers(n, l, at, selectors.len(), selectors, labels)
 }
 
 // The row values of the eight polynomials, end to end: the selectors, then the tags of where the permutation leads.
@@ -51,7 +52,7 @@ fn fill_rows(p: u32, n: u32, powers: &[u32], selectors: &[u32], labels: &[u32], 
 // The work on checked numbers: the row values, each run of n of them interpolated in place, and the scratch cleared.
 pub fn work(p: u32, n: u32, selectors: &[u32], labels: &[u32], out: &mut [u32], scratch: &mut [u32])
     requires { ⌜ Checked p n (now selectors) (now labels) (now out) (now scratch) ⌝ }
-    ensures { λ _. ⌜ now (out .exit) ≡ prepared p n (lentCircuit n (now (selectors .entry)) (now (labels .entry))) ⌝ }
+    ensures { λ _. ⌜ now (out .exit) ≡ prepared p n (lentConstraints n (now (selectors .entry)) (now (labels .entry))) ⌝ }
     ensures { λ _. ⌜ now (scratch .exit) ≡ replicate (scratchLength n) 0 ⌝ }
 {
     let m = n as usize;
@@ -61,18 +62,20 @@ pub fn work(p: u32, n: u32, selectors: &[u32], labels: &[u32], out: &mut [u32], 
     transform::slices::clear(scratch);
 }
 
-// The prepared circuit: qL, qR, qO, qM, qC and the three polynomials of the tags of where the permutation leads, end to end.
+// The prepared circuit: qL, qR, qO, qM, qC and the three polynomials of the tags of where the permutation leads, end to end. l is the number of
+// public inputs: the rows below it must be public rows.
 pub fn prepare(
     p: u32,
     n: u32,
+    l: u32,
     selectors: &[u32],
     labels: &[u32],
     written: &mut [u32],
     scratch: &mut [u32],
 ) -> Answer
-    ensures { λ r. ⌜ Prepares p n (now (selectors .entry)) (now (labels .entry)) (now (written .entry)) (now (scratch .entry)) r (now (written .exit)) (now (scratch .exit)) ⌝ }
+    ensures { λ r. ⌜ Prepares p n l (now (selectors .entry)) (now (labels .entry)) (now (written .entry)) (now (scratch .entry)) r (now (written .exit)) (now (scratch .exit)) ⌝ }
 {
-    let answer = decide(p, n, selectors, labels, written, scratch);
+    let answer = decide(p, n, l, selectors, labels, written, scratch);
     let number = answer.number;
     if number == 0 {
         work(p, n, selectors, labels, written, scratch);

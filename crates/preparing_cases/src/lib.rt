@@ -1,4 +1,4 @@
-// Preparing: the worked sheet, and why a call is refused. A line has the label, p and n, the answer, the prepared numbers and what became of the scratch.
+// Preparing: the worked sheet, and why a call is refused. A line has the label, p, n and l, the answer, the prepared numbers and what became of the scratch.
 use case_tools::buffers;
 use case_tools::print;
 
@@ -6,16 +6,18 @@ fn case(
     label: &[u8],
     p: u32,
     n: u32,
+    l: u32,
     selectors: &[u32],
     labels: &[u32],
     prepared: &mut [u32],
     scratch: &mut [u32],
 ) {
     buffers::mark(scratch, 7);
-    let answer = preparing::prepare(p, n, selectors, labels, prepared, scratch);
+    let answer = preparing::prepare(p, n, l, selectors, labels, prepared, scratch);
     print::text(label);
     print::number(p);
     print::number(n);
+    print::number(l);
     print::answer(answer);
     print::numbers(prepared);
     scratch_after(scratch);
@@ -31,11 +33,25 @@ fn scratch_after(scratch: &[u32]) {
     }
 }
 
-// Two rows, with buffers of the right lengths.
-fn two_rows(label: &[u8], p: u32, n: u32, selectors: &[u32], labels: &[u32]) {
+// Two rows and l public inputs, with buffers of the right lengths.
+fn public(label: &[u8], p: u32, n: u32, l: u32, selectors: &[u32], labels: &[u32]) {
     let mut prepared = [99u32; 16];
     let mut scratch = [0u32; 32];
-    case(label, p, n, selectors, labels, &mut prepared, &mut scratch);
+    case(
+        label,
+        p,
+        n,
+        l,
+        selectors,
+        labels,
+        &mut prepared,
+        &mut scratch,
+    );
+}
+
+// Two rows and no public input.
+fn two_rows(label: &[u8], p: u32, n: u32, selectors: &[u32], labels: &[u32]) {
+    public(label, p, n, 0, selectors, labels);
 }
 
 fn taken() {
@@ -92,6 +108,100 @@ fn refused() {
     two_rows(b"label 6", 17, 2, &selectors, &[0, 2, 1, 6, 2, 9]);
 }
 
+// The worked sheet with row 0 made a public row: its selectors, and the five of row 0 wrong in turn.
+fn public_rows() {
+    let labels = [0, 2, 1, 2, 2, 3];
+    let large = [0, 2, 1, 2, 2, 6];
+    public(
+        b"row 0 public, l is 1",
+        17,
+        2,
+        1,
+        &[1, 1, 0, 1, 0, 16, 0, 0, 0, 0],
+        &labels,
+    );
+    public(
+        b"both rows public, l is n",
+        17,
+        2,
+        2,
+        &[1, 1, 0, 0, 0, 0, 0, 0, 0, 0],
+        &labels,
+    );
+    public(
+        b"qL is 0",
+        17,
+        2,
+        1,
+        &[0, 1, 0, 1, 0, 16, 0, 0, 0, 0],
+        &labels,
+    );
+    public(
+        b"qR is 1",
+        17,
+        2,
+        1,
+        &[1, 1, 1, 1, 0, 16, 0, 0, 0, 0],
+        &labels,
+    );
+    public(
+        b"qO is 16",
+        17,
+        2,
+        1,
+        &[1, 1, 0, 1, 16, 16, 0, 0, 0, 0],
+        &labels,
+    );
+    public(
+        b"qM is 1",
+        17,
+        2,
+        1,
+        &[1, 1, 0, 1, 0, 16, 1, 0, 0, 0],
+        &labels,
+    );
+    public(
+        b"qC is 1",
+        17,
+        2,
+        1,
+        &[1, 1, 0, 1, 0, 16, 0, 0, 1, 0],
+        &labels,
+    );
+    public(
+        b"row 1 is no public row",
+        17,
+        2,
+        2,
+        &[1, 1, 0, 1, 0, 16, 0, 0, 0, 0],
+        &labels,
+    );
+    public(
+        b"neither is a public row",
+        17,
+        2,
+        2,
+        &[0, 1, 0, 1, 16, 16, 1, 0, 0, 0],
+        &labels,
+    );
+    public(
+        b"8 before 14",
+        17,
+        2,
+        1,
+        &[0, 1, 0, 1, 16, 16, 1, 0, 0, 0],
+        &large,
+    );
+    public(
+        b"l above n",
+        17,
+        2,
+        3,
+        &[17, 1, 0, 0, 0, 0, 0, 0, 0],
+        &labels,
+    );
+}
+
 fn lengths() {
     let selectors = [0, 1, 0, 1, 16, 17, 1, 0, 0, 0];
     let labels = [0, 2, 1, 2, 2, 9];
@@ -101,6 +211,7 @@ fn lengths() {
         b"prepared one too short",
         17,
         2,
+        1,
         &selectors,
         &labels,
         &mut prepared,
@@ -111,6 +222,7 @@ fn lengths() {
         b"scratch one too long",
         17,
         2,
+        1,
         &selectors,
         &labels,
         &mut right,
@@ -121,5 +233,6 @@ fn lengths() {
 pub fn run() {
     taken();
     refused();
+    public_rows();
     lengths();
 }

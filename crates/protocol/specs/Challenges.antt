@@ -22,14 +22,14 @@ use Rattle.algebra.specs.Division.{eval-vanishing, length-vanishing}
 use Rattle.field.specs.Fields.{point}
 use Rattle.field.specs.Domain.{Domain}
 use Rattle.transform.specs.Transform.{interpolation}
-use Rattle.circuit.specs.Circuit.{Circuit, position, gate}
+use Rattle.circuit.specs.Circuit.{Constraints, position, gate}
 use Rattle.protocol.specs.Protocol.{fOf, gatePart, stepPart, startPart, preparedPoly, prepared, transcript, pass, rowVerdict, accept, pointVerdict}
 use Rattle.protocol.specs.Domains.{point-power}
 use Rattle.protocol.specs.Rows.{RowHolds, pass-or-row}
 use Rattle.protocol.specs.Values.{eval-F, gate-at, step-at, start-at}
 use Rattle.protocol.specs.Points.{accepted-agree}
 
-module _ (q n : ℕ) (D : Domain (suc q) n) (C : Circuit) (x : ℕ → ℕ) (wire : ℕ → List ℕ) (z : List ℕ) (beta gamma : ℕ) where
+module _ (q n : ℕ) (D : Domain (suc q) n) (C : Constraints) (x : ℕ → ℕ) (wire : ℕ → List ℕ) (z : List ℕ) (beta gamma : ℕ) where
   abbrev p : ℕ
   p = suc q
 

@@ -25,7 +25,7 @@ use Rattle.field.specs.Fields.{point, tag}
 use Rattle.field.specs.Domain.{Domain}
 use Rattle.transform.specs.Transform.{interpolation}
 use Rattle.transform.specs.Interpolation.{interpolation-at, rows-positive}
-use Rattle.circuit.specs.Circuit.{Circuit, position, permutation, Satisfies}
+use Rattle.circuit.specs.Circuit.{Constraints, position, permutation, Satisfies}
 use Rattle.circuit.specs.Permutation.{permutation-perm, permutation-label}
 use Rattle.protocol.specs.Protocol.{fOf, factor, wiredTag, rowN, rowD, rowZ, startPart, preparedPoly, prepared, wiresOf, zOf, tOf, proved, pass, rowVerdict, accept, pointVerdict}
 use Rattle.protocol.specs.Rows.{RowHolds, rows-pass}
@@ -35,7 +35,7 @@ use Rattle.protocol.specs.Points.{agree-accepted}
 use Rattle.protocol.specs.Pairing.{product-N, product-D}
 use Rattle.protocol.specs.Quotients.{quotient-holds}
 
-module _ (q n : ℕ) (D : Domain (suc q) n) (C : Circuit) (x v : ℕ → ℕ) (sat : Satisfies (suc q) n C x v) (beta gamma : ℕ)
+module _ (q n : ℕ) (D : Domain (suc q) n) (C : Constraints) (x v : ℕ → ℕ) (sat : Satisfies (suc q) n C x v) (beta gamma : ℕ)
     (nonzero : (k : ℕ) → k < 3 * n → Cong (suc q) (factor (wiredTag (suc q) n C) v beta gamma k) 0 → ⊥) where
   abbrev p : ℕ
   p = suc q

@@ -21,13 +21,13 @@ use Rattle.algebra.specs.Lists.{AtMost}
 use Rattle.algebra.specs.Congruence.{Cong, cong, _⨾_, back, cong-lt, cong-cancel, cong-0, is-0}
 use Rattle.algebra.specs.Search.{first-is, first-none, none-of, both-false, one-true}
 use Rattle.algebra.specs.Counting.{at-most-of, at-most-none, at-most-or, at-most-pairs}
-use Rattle.circuit.specs.Circuit.{Circuit, position, gate, Satisfies}
+use Rattle.circuit.specs.Circuit.{Constraints, position, gate, Satisfies}
 use Rattle.circuit.specs.Positions.{by-position}
 use Rattle.protocol.specs.Protocol.{factor, wiredTag, brokenGate, brokenCopy, zeroFactor}
 
 -- 9 AND 10
 
-module _ (p n : ℕ) (C : Circuit) (x v : ℕ → ℕ) where
+module _ (p n : ℕ) (C : Constraints) (x v : ℕ → ℕ) where
   -- position j has the label of k and another wire value
   abbrev clashes : ℕ → ℕ → Bool
   clashes k j = eqb (C .label j) (C .label k) && not (eqb (v j) (v k))
@@ -76,7 +76,7 @@ module _ (p n : ℕ) (C : Circuit) (x v : ℕ → ℕ) where
 
 -- 11
 
-module _ (p n : ℕ) (C : Circuit) (v : ℕ → ℕ) where
+module _ (p n : ℕ) (C : Constraints) (v : ℕ → ℕ) where
   -- the factor of D at position k is zero
   abbrev Zero : ℕ → ℕ → ℕ → Type 0
   Zero beta gamma k = Cong p (factor (wiredTag p n C) v beta gamma k) 0
@@ -90,7 +90,7 @@ module _ (p n : ℕ) (C : Circuit) (v : ℕ → ℕ) where
 
     pub factors-nonzero : zeroFactor p n C v beta gamma ≡ n → (k : ℕ) → k < 3 * n → Cong p (factor (wiredTag p n C) v beta gamma k) 0 → ⊥
     unfolding zeroFactor
-    factors-nonzero e = by-position n (λ k. Zero beta gamma k → ⊥) at
+    factors-nonzero e = by-position 3 n (λ k. Zero beta gamma k → ⊥) at
       where
         row : (i : ℕ) → i < n → (eqb (f i 0) 0 ≡ false) × (eqb (f i 1) 0 ≡ false) × (eqb (f i 2) 0 ≡ false)
         row i l =

@@ -1,4 +1,4 @@
--- Demand 3, the soundness and the completeness of the protocol, for every admissible p and n. Each challenge runs over 0 to p - 1.
+-- Demand 3, the soundness and the completeness of the protocol, for every admissible p and n and every circuit. Each challenge runs over 0 to p - 1.
 --
 -- THE STATEMENT
 -- witnessOf p n wire                 the wire values that are the values of three wires at the domain points (document 01: the contents)
@@ -8,12 +8,12 @@
 -- Sound p n C x wire                 how few pairs, alphas and zetas there are for a witness that does not satisfy the circuit
 -- Complete p n C x v beta gamma      what holds for a witness that satisfies it, where no factor of any D(i) is zero
 -- ZeroPair p n C v s                 the pair s is one with a zero factor of some D(i) (document 01: reason 11)
--- Demand3 p n                        all of it, and the lengths of the prepared circuit and of the transcript
+-- Demand3 p n l C                    all of it, what the public inputs bind, and the lengths of the prepared circuit and of the transcript
 -- THE THEOREM
--- demand-3                           Demand3 holds for every admissible p and n
+-- demand-3                           Demand3 holds for every admissible p and n and every circuit of n rows with l public inputs
 --
 -- A cheat lays three wires, is drawn a pair, chooses z, is drawn an alpha, chooses t, is drawn a zeta. `AtMost K P` says that at most K things satisfy P;
--- `fOf` is F of the circuit, the public inputs, the wires and z.
+-- `fOf` is F of the circuit, the public inputs, the wires and z. The counts themselves need less than a circuit: `sound` and `complete` below hold of any constraints.
 -- Assumes nothing.
 use mathlib.Core.Path.{_≡_, sym, ap₂}
 use mathlib.Core.List.{List}
@@ -28,9 +28,10 @@ use Rattle.field.specs.Fields.{Admissible, point}
 use Rattle.field.specs.Domain.{Domain, domain}
 use Rattle.transform.specs.Interpolation.{rows-positive}
 use Rattle.transform.specs.Transform.{valueAt}
-use Rattle.circuit.specs.Circuit.{Circuit, position, Satisfies}
+use Rattle.circuit.specs.Circuit.{Constraints, Circuit, position, Satisfies}
 use Rattle.circuit.specs.Buffers.{preparedLength, quotientLength, transcriptLength}
 use Rattle.circuit.specs.Positions.{position-column, position-row}
+use Rattle.circuit.specs.PublicBound.{public-bound}
 use Rattle.protocol.specs.Protocol.{fOf, rowZ, prepared, wiresOf, zOf, tOf, transcript, proved, pass, rowVerdict, accept, pointVerdict, zeroFactor}
 use Rattle.protocol.specs.Lengths.{length-F-rows}
 use Rattle.protocol.specs.Layout.{prepared-elements, proved-elements}
@@ -46,7 +47,7 @@ abbrev pub witnessOf : ℕ → ℕ → (ℕ → List ℕ) → ℕ → ℕ
 witnessOf p n wire k = valueAt p n (wire (k / n)) (k % n)
 
 -- a cheat's three wires
-module _ (p n : ℕ) (C : Circuit) (x : ℕ → ℕ) (wire : ℕ → List ℕ) where
+module _ (p n : ℕ) (C : Constraints) (x : ℕ → ℕ) (wire : ℕ → List ℕ) where
   -- the row check, lent the wires' witness and the values of z at the domain points, answers pass
   pub record PassingPair (pair : ℕ × ℕ) : Type 0 where
     pub beta-element : pair .0 < p
@@ -77,7 +78,7 @@ module _ (p n : ℕ) (C : Circuit) (x : ℕ → ℕ) (wire : ℕ → List ℕ) w
         → (t : List ℕ) → Elements p (quotientLength n) t → AtMost (4 * n - 4) (AcceptedZeta z t pair alpha)
 
 -- an honest witness
-pub record Complete (p n : ℕ) (C : Circuit) (x v : ℕ → ℕ) (beta gamma : ℕ) : Type 0 where
+pub record Complete (p n : ℕ) (C : Constraints) (x v : ℕ → ℕ) (beta gamma : ℕ) : Type 0 where
   -- z on the rows passes the row check
   pub z-passes : rowVerdict p n C x v (rowZ p n C v beta gamma) beta gamma ≡ pass
   -- t × (X^n - 1) is F
@@ -86,21 +87,24 @@ pub record Complete (p n : ℕ) (C : Circuit) (x v : ℕ → ℕ) (beta gamma : 
   -- the point check accepts a, b, c, z and t
   pub accepted : (alpha zeta : ℕ) → pointVerdict p n (prepared p n C) x (proved p n C x v beta gamma alpha) beta gamma alpha zeta ≡ accept
 
-pub record ZeroPair (p n : ℕ) (C : Circuit) (v : ℕ → ℕ) (pair : ℕ × ℕ) : Type 0 where
+pub record ZeroPair (p n : ℕ) (C : Constraints) (v : ℕ → ℕ) (pair : ℕ × ℕ) : Type 0 where
   pub beta-element : pair .0 < p
   pub gamma-element : pair .1 < p
   pub zero-factor : zeroFactor p n C v (pair .0) (pair .1) < n
 
-pub record Demand3 (p n : ℕ) : Type 0 where
+-- of a circuit C of n rows with l public inputs
+pub record Demand3 (p n l : ℕ) (C : Constraints) : Type 0 where
+  -- a witness of elements that satisfies the circuit has the public input x(i) at a(i), in every row i below l
+  pub binding : (x v : ℕ → ℕ) → Satisfies p n C x v → (i : ℕ) → i < l → x i < p → v (position n 0 i) < p → v (position n 0 i) ≡ x i
   -- three wires of n elements
-  pub soundness : (C : Circuit) (x : ℕ → ℕ) (wire : ℕ → List ℕ) → ((c : ℕ) → c < 3 → Elements p n (wire c)) → Sound p n C x wire
+  pub soundness : (x : ℕ → ℕ) (wire : ℕ → List ℕ) → ((c : ℕ) → c < 3 → Elements p n (wire c)) → Sound p n C x wire
   -- a witness that satisfies the circuit, and no zero factor of any D(i)
-  pub completeness : (C : Circuit) (x v : ℕ → ℕ) → Satisfies p n C x v → (beta gamma : ℕ) → zeroFactor p n C v beta gamma ≡ n → Complete p n C x v beta gamma
+  pub completeness : (x v : ℕ → ℕ) → Satisfies p n C x v → (beta gamma : ℕ) → zeroFactor p n C v beta gamma ≡ n → Complete p n C x v beta gamma
   -- a zero factor is met for at most 3n × p pairs, whatever the witness
-  pub zero-factors : (C : Circuit) (v : ℕ → ℕ) → AtMost (3 * n * p) (ZeroPair p n C v)
+  pub zero-factors : (v : ℕ → ℕ) → AtMost (3 * n * p) (ZeroPair p n C v)
   -- preparing writes 8n elements, the prover lays 7n - 3
-  pub prepared-long : (C : Circuit) → Elements p (preparedLength n) (prepared p n C)
-  pub proved-long : (C : Circuit) (x v : ℕ → ℕ) (beta gamma alpha : ℕ) → Elements p (transcriptLength n) (proved p n C x v beta gamma alpha)
+  pub prepared-long : Elements p (preparedLength n) (prepared p n C)
+  pub proved-long : (x v : ℕ → ℕ) (beta gamma alpha : ℕ) → Elements p (transcriptLength n) (proved p n C x v beta gamma alpha)
 
 -- THE PROOF
 
@@ -108,7 +112,7 @@ module _ (q n : ℕ) (D : Domain (suc q) n) where
   abbrev p : ℕ
   p = suc q
 
-  module _ (C : Circuit) (x : ℕ → ℕ) (wire : ℕ → List ℕ) where
+  module _ (C : Constraints) (x : ℕ → ℕ) (wire : ℕ → List ℕ) where
     witness-lt : (k : ℕ) → k < 3 * n → witnessOf (suc q) n wire k < suc q
     witness-lt k l = mod-lt _ (zero-lt-suc q)
 
@@ -139,7 +143,7 @@ module _ (q n : ℕ) (D : Domain (suc q) n) where
               (omega arith);
         }
 
-  complete : (C : Circuit) (x v : ℕ → ℕ) → Satisfies (suc q) n C x v → (beta gamma : ℕ) → zeroFactor (suc q) n C v beta gamma ≡ n
+  complete : (C : Constraints) (x v : ℕ → ℕ) → Satisfies (suc q) n C x v → (beta gamma : ℕ) → zeroFactor (suc q) n C v beta gamma ≡ n
       → Complete (suc q) n C x v beta gamma
   complete C x v sat beta gamma e =
       let h = factors-nonzero p n C v beta gamma e in
@@ -149,17 +153,18 @@ module _ (q n : ℕ) (D : Domain (suc q) n) where
         accepted = accepts q n D C x v sat beta gamma h;
       }
 
-  all-of-it : Demand3 (suc q) n
-  all-of-it =
+  all-of-it : (l : ℕ) (C : Constraints) → Circuit (suc q) n l C → Demand3 (suc q) n l C
+  all-of-it l C K =
       record {
-        soundness = sound;
-        completeness = complete;
-        zero-factors = λ C v. at-most-of (few-zero-factors p n C v) (λ s h. (h .beta-element, h .gamma-element, h .zero-factor)) (omega arith);
-        prepared-long = λ C. prepared-elements p n C (zero-lt-suc q);
-        proved-long = λ C x v beta gamma alpha.
+        binding = public-bound p n l C K;
+        soundness = sound C;
+        completeness = complete C;
+        zero-factors = λ v. at-most-of (few-zero-factors p n C v) (λ s h. (h .beta-element, h .gamma-element, h .zero-factor)) (omega arith);
+        prepared-long = prepared-elements p n C (zero-lt-suc q);
+        proved-long = λ x v beta gamma alpha.
             proved-elements p n C x v beta gamma alpha (zero-lt-suc q) (omega (arith, rows-positive q n D));
       }
 
-pub demand-3 : (p n : ℕ) → Admissible p n → Demand3 p n
-demand-3 zero n A = absurd (omega (arith, domain zero n A .prime .two))
-demand-3 (suc q) n A = all-of-it q n (domain (suc q) n A)
+pub demand-3 : (p n l : ℕ) → Admissible p n → (C : Constraints) → Circuit p n l C → Demand3 p n l C
+demand-3 zero n l A C K = absurd (omega (arith, domain zero n A .prime .two))
+demand-3 (suc q) n l A C K = all-of-it q n (domain (suc q) n A) l C K

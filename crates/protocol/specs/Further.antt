@@ -26,7 +26,7 @@ use Rattle.algebra.specs.Polynomial.{quotientVanishing, reduced}
 use Rattle.field.specs.Fields.{generator, root, point, multiplier, tag}
 use Rattle.field.specs.Primes.{prime-2013265921}
 use Rattle.transform.specs.Transform.{interpolation}
-use Rattle.circuit.specs.Circuit.{Circuit, lentCircuit, lentWitness, lentPublic, permutation, gate}
+use Rattle.circuit.specs.Circuit.{Constraints, lentConstraints, lentWitness, lentPublic, permutation, gate}
 use Rattle.protocol.specs.Protocol.{rowN, rowD, rowZ, polyN, polyD, polyL, gatePart, stepPart, startPart, polyF, quotient, prepared, wiresOf, zOf, proved, RowVerdict, pass, fails, gateIdentity, startIdentity, stepIdentity, rowsFrom, rowAt, rowVerdict, PointVerdict, accept, reject, pointF, pointVerdict, brokenGate, brokenCopy, zeroFactor}
 use Rattle.protocol.specs.Worked.{numbers, rows, atPoint, Case, _&_}
 
@@ -43,8 +43,8 @@ pub record Sheet : Type 0 where
   pub gamma : ℕ
   pub alpha : ℕ
 
-abbrev circuit : Sheet → Circuit
-circuit s = lentCircuit (s .n) (s .selectors) (s .labels)
+abbrev circuit : Sheet → Constraints
+circuit s = lentConstraints (s .n) (s .selectors) (s .labels)
 
 abbrev publics : Sheet → ℕ → ℕ
 publics s = lentPublic (s .given)

@@ -18,7 +18,7 @@ use Rattle.algebra.specs.Polynomial.{Elements}
 use Rattle.algebra.specs.PolynomialLaws.{append-elements, reduced-elements}
 use Rattle.transform.specs.Transform.{interpolation}
 use Rattle.transform.specs.Interpolation.{interpolation-elements}
-use Rattle.circuit.specs.Circuit.{Circuit}
+use Rattle.circuit.specs.Circuit.{Constraints}
 use Rattle.circuit.specs.Buffers.{preparedLength, wireLength, zLength, quotientLength, transcriptLength, zStart, preparedPart, wirePart, zPart, tPart}
 use Rattle.protocol.specs.Protocol.{fOf, polyN, polyD, gatePart, stepPart, polyF, quotient, preparedPoly, prepared, wiresOf, transcript, proved, pointF}
 use Rattle.protocol.specs.Lengths.{interpolation-length}
@@ -57,7 +57,7 @@ before-elements {p} {n} {m} f (suc c) {r} h e =
 
 -- THE PREPARED CIRCUIT
 
-module _ (p n : ℕ) (C : Circuit) where
+module _ (p n : ℕ) (C : Constraints) where
   prepared-before : prepared p n C ≡ laidBefore (preparedPoly p n C) 8 []
   unfolding prepared
   prepared-before = ap (laidBefore (preparedPoly p n C) 7) (sym (append-nil (preparedPoly p n C 7)))
@@ -87,7 +87,7 @@ module _ (n : ℕ) (wire : ℕ → List ℕ) (z t : List ℕ) (lw : (c : ℕ) �
       sym (drop-drop (zLength n) (zStart n) (transcript wire z t))
       ∙ ap (drop (zLength n)) (before-rest (wireLength n) wire 3 (z ++ t) lw) ∙ drop-at z t (zLength n) h
 
-pub proved-elements : (p n : ℕ) (C : Circuit) (x v : ℕ → ℕ) (beta gamma alpha : ℕ) → 0 < p → 1 ≤ n
+pub proved-elements : (p n : ℕ) (C : Constraints) (x v : ℕ → ℕ) (beta gamma alpha : ℕ) → 0 < p → 1 ≤ n
     → Elements p (transcriptLength n) (proved p n C x v beta gamma alpha)
 unfolding quotient
 proved-elements p n C x v beta gamma alpha z h =
@@ -106,7 +106,7 @@ unfolding polyF gatePart stepPart polyN polyD
 F-ext p n pre pre′ wire wire′ x z beta gamma alpha h k =
     rw (h 0 (omega arith), h 1 (omega arith), h 2 (omega arith), h 3 (omega arith), h 4 (omega arith), h 5 (omega arith), h 6 (omega arith), h 7 (omega arith), k 0 (omega arith), k 1 (omega arith), k 2 (omega arith))
 
-pub lent-F : (p n : ℕ) (C : Circuit) (x : ℕ → ℕ) (wire : ℕ → List ℕ) (z t : List ℕ) → ((c : ℕ) → c < 3 → length (wire c) ≡ wireLength n) → length z ≡ zLength n
+pub lent-F : (p n : ℕ) (C : Constraints) (x : ℕ → ℕ) (wire : ℕ → List ℕ) (z t : List ℕ) → ((c : ℕ) → c < 3 → length (wire c) ≡ wireLength n) → length z ≡ zLength n
     → (beta gamma alpha : ℕ)
     → pointF p n (prepared p n C) x (transcript wire z t) beta gamma alpha
     ≡ fOf p n C x wire z beta gamma alpha

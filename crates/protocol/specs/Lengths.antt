@@ -22,7 +22,7 @@ use Rattle.algebra.specs.PolynomialLaws.{length-add, length-scale, length-mul, 
 use Rattle.algebra.specs.Tables.{length-tab}
 use Rattle.field.specs.Fields.{root, multiplier}
 use Rattle.transform.specs.Transform.{interpolation}
-use Rattle.circuit.specs.Circuit.{Circuit}
+use Rattle.circuit.specs.Circuit.{Constraints}
 use Rattle.protocol.specs.Protocol.{fOf, _⊕_, polyN, polyD, polyL, gatePart, stepPart, startPart, polyF, preparedPoly}
 
 pub record Short (d : ℕ) (f : List ℕ) : Type 0 where
@@ -96,7 +96,7 @@ interpolation-length p n v = length-tab _ n
 interpolation-short : (p n : ℕ) (v : ℕ → ℕ) → Short n (interpolation p n v)
 interpolation-short p n v = record { short = omega (arith, interpolation-length p n v) }
 
-pub length-F : (p n a b : ℕ) (C : Circuit) (x : ℕ → ℕ) (wire : ℕ → List ℕ) (z : List ℕ) → 2 ≤ n → n ≤ suc a
+pub length-F : (p n a b : ℕ) (C : Constraints) (x : ℕ → ℕ) (wire : ℕ → List ℕ) (z : List ℕ) → 2 ≤ n → n ≤ suc a
     → ((c : ℕ) → c < 3 → length (wire c) ≤ suc a) → length z ≤ suc b
     → (beta gamma alpha : ℕ) → length (fOf p n C x wire z beta gamma alpha) ≤ suc (3 * a + b)
 length-F p zero a b C x wire z two more lw lz beta gamma alpha = absurd (omega arith)
@@ -104,7 +104,7 @@ length-F p (suc r) a b C x wire z two more lw lz beta gamma alpha =
     short-F p r a b (omega arith) (omega arith) (preparedPoly p (suc r) C) wire (λ s l. interpolation-short p (suc r) _) (λ c l. record { short = lw c l })
     z (record { short = lz }) (interpolation p (suc r) x) (interpolation-short p (suc r) x) beta gamma alpha .short
 
-pub length-F-rows : (p n : ℕ) (C : Circuit) (x : ℕ → ℕ) (wire : ℕ → List ℕ) (z : List ℕ) → 2 ≤ n
+pub length-F-rows : (p n : ℕ) (C : Constraints) (x : ℕ → ℕ) (wire : ℕ → List ℕ) (z : List ℕ) → 2 ≤ n
     → ((c : ℕ) → c < 3 → length (wire c) ≡ n) → length z ≡ n
     → (beta gamma alpha : ℕ) → length (fOf p n C x wire z beta gamma alpha) ≤ suc (4 * n - 4)
 length-F-rows p n C x wire z two lw lz beta gamma alpha =

@@ -16,7 +16,7 @@ use lib.ListN.{length, take}
 use lib.Seq.{take-at}
 use denote.Ref.{RefT, now}
 use borrow.Author.Tests.{le-leb, eq-eqb}
-use Rattle.circuit.specs.Circuit.{Circuit}
+use Rattle.circuit.specs.Circuit.{Constraints}
 use Rattle.circuit.specs.Buffers.{preparedLength, wireLength, zLength, quotientLength, transcriptLength, preparedPart, wirePart, zPart, tPart}
 use Rattle.circuit.specs.Promises.{anyRows, Part, preparedPlace, numberedPart, polynomialPart, Hands}
 use Rattle.protocol.specs.Protocol.{preparedPoly, prepared, transcript}
@@ -30,7 +30,7 @@ module _ (n : ℕ) (pre lent r : RefT (List ℕ)) where
       let is : polynomialPart n k pre lent ≡ numberedPart n k pre lent = rw (a, eq-eqb (length (now pre)) (preparedLength n) b, eq-eqb (length (now lent)) (transcriptLength n) c) in
       subst (λ (P : Part). Hands P r) is H
 
-  pub numbered-prepared : (p : ℕ) (C : Circuit) → now pre ≡ prepared p n C → (k : ℕ) → k < 8 → Hands (numberedPart n k pre lent) r
+  pub numbered-prepared : (p : ℕ) (C : Constraints) → now pre ≡ prepared p n C → (k : ℕ) → k < 8 → Hands (numberedPart n k pre lent) r
       → now r ≡ preparedPoly p n C k
   numbered-prepared p C e k l H =
       let is : numberedPart n k pre lent ≡ preparedPlace n k pre = rw (le-leb k 7 (omega arith)) in

@@ -19,7 +19,7 @@ use Rattle.algebra.specs.Pairs.{PairPasses, pair-bound}
 use Rattle.field.specs.Fields.{tag}
 use Rattle.field.specs.Domain.{Domain}
 use Rattle.transform.specs.Interpolation.{rows-positive}
-use Rattle.circuit.specs.Circuit.{Circuit, permutation, gate, Satisfies}
+use Rattle.circuit.specs.Circuit.{Constraints, permutation, gate, Satisfies}
 use Rattle.circuit.specs.Positions.{product-by-rows}
 use Rattle.circuit.specs.Permutation.{permutation-perm, permutation-agree}
 use Rattle.protocol.specs.Protocol.{factor, wiredTag, rowN, rowD, pass, rowVerdict}
@@ -32,13 +32,13 @@ pub product-N : (p n : ℕ) (v : ℕ → ℕ) (beta gamma : ℕ) → Cong p (pro
 unfolding rowN
 product-N p n v beta gamma = prodN-cong n _ _ (λ i l. cong-mod) ⨾ cong (sym (product-by-rows n (factor (tag p n) v beta gamma)))
 
-pub product-D : (p n : ℕ) (C : Circuit) (v : ℕ → ℕ) (beta gamma : ℕ)
+pub product-D : (p n : ℕ) (C : Constraints) (v : ℕ → ℕ) (beta gamma : ℕ)
     → Cong p (prodN n (rowD p n C v beta gamma)) (prodN (3 * n) (factor (wiredTag p n C) v beta gamma))
 unfolding rowD
 product-D p n C v beta gamma =
     prodN-cong n _ _ (λ i l. cong-mod) ⨾ cong (sym (product-by-rows n (factor (wiredTag p n C) v beta gamma)))
 
-module _ (p n : ℕ) (C : Circuit) (x v : ℕ → ℕ) where
+module _ (p n : ℕ) (C : Constraints) (x v : ℕ → ℕ) where
   abbrev pub Passing : (ℕ × ℕ) → Type 0
   Passing s = (s .0 < p) × (s .1 < p) × ((z : ℕ → ℕ) × (rowVerdict p n C x v z (s .0) (s .1) ≡ pass))
 
@@ -85,7 +85,7 @@ agree-or-differ f g (suc m) = go (agree-or-differ f g m) (ℕ-discrete (f m) (g 
         at k h (yes u) = subst (λ (k : ℕ). f k ≡ g k) (sym u) e
         at k h (no u) = a k (omega arith)
 
-module _ (q n : ℕ) (D : Domain (suc q) n) (C : Circuit) (x v : ℕ → ℕ) where
+module _ (q n : ℕ) (D : Domain (suc q) n) (C : Constraints) (x v : ℕ → ℕ) where
   abbrev p : ℕ
   p = suc q
 

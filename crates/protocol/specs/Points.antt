@@ -16,12 +16,12 @@ use borrow.Author.Tests.{eqb-true, eq-eqb}
 use Rattle.algebra.specs.Polynomial.{eval, timesVanishing}
 use Rattle.algebra.specs.Congruence.{Cong, cong, _⨾_}
 use Rattle.algebra.specs.Division.{eval-vanishing}
-use Rattle.circuit.specs.Circuit.{Circuit}
+use Rattle.circuit.specs.Circuit.{Constraints}
 use Rattle.circuit.specs.Buffers.{tPart}
 use Rattle.protocol.specs.Protocol.{fOf, prepared, transcript, accept, reject, pointF, pointVerdict}
 use Rattle.protocol.specs.Layout.{t-part, lent-F}
 
-module _ (q n : ℕ) (C : Circuit) (x : ℕ → ℕ) (wire : ℕ → List ℕ) (z t : List ℕ) (lw : (c : ℕ) → c < 3 → length (wire c) ≡ n) (lz : length z ≡ n)
+module _ (q n : ℕ) (C : Constraints) (x : ℕ → ℕ) (wire : ℕ → List ℕ) (z t : List ℕ) (lw : (c : ℕ) → c < 3 → length (wire c) ≡ n) (lz : length z ≡ n)
     (beta gamma alpha zeta : ℕ) where
   abbrev p : ℕ
   p = suc q

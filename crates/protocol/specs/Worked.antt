@@ -25,13 +25,13 @@ use Rattle.field.specs.declared.Answer.{Answer}
 use Rattle.field.specs.Fields.{generator, root, point, multiplier, tag}
 use Rattle.field.specs.Reasons.{answerOf}
 use Rattle.transform.specs.Transform.{interpolation}
-use Rattle.circuit.specs.Circuit.{Circuit, lentCircuit, lentWitness, lentPublic, permutation, gate}
+use Rattle.circuit.specs.Circuit.{Constraints, lentConstraints, lentWitness, lentPublic, permutation, gate}
 use Rattle.protocol.specs.Protocol.{rowN, rowD, rowZ, polyN, polyD, polyL, gatePart, stepPart, startPart, polyF, quotient, preparedPoly, prepared, wiresOf, zOf, tOf, proved, RowVerdict, pass, fails, startIdentity, stepIdentity, rowsFrom, rowVerdict, PointVerdict, accept, pointVerdict, brokenGate, brokenCopy, zeroFactor, witnessReasons}
 
 -- THE SHEET
 
-abbrev pub circuit : Circuit
-circuit = lentCircuit 2 (0 ∷ 1 ∷ 0 ∷ 1 ∷ 16 ∷ 16 ∷ 1 ∷ 0 ∷ 0 ∷ 0 ∷ []) (0 ∷ 2 ∷ 1 ∷ 2 ∷ 2 ∷ 3 ∷ [])
+abbrev pub circuit : Constraints
+circuit = lentConstraints 2 (0 ∷ 1 ∷ 0 ∷ 1 ∷ 16 ∷ 16 ∷ 1 ∷ 0 ∷ 0 ∷ 0 ∷ []) (0 ∷ 2 ∷ 1 ∷ 2 ∷ 2 ∷ 3 ∷ [])
 
 abbrev pub publics : ℕ → ℕ
 publics = lentPublic []

@@ -14,7 +14,7 @@ use native.Mathlib.Omega.{arith}
 use lib.ListN.{length, getD, take, drop, length-take, length-drop, length-append}
 use lib.Seq.{take-at}
 use Rattle.field.specs.Primes.{rows-power}
-use Rattle.circuit.specs.Circuit.{Circuit, lentCircuit, lentPublic, lentWitness}
+use Rattle.circuit.specs.Circuit.{Constraints, lentConstraints, lentPublic, lentWitness}
 use Rattle.circuit.specs.Buffers.{preparedLength, quotientLength, transcriptLength, tStart}
 use Rattle.protocol.specs.Protocol.{quotient}
 use Rattle.protocol.specs.Lengths.{interpolation-length}
@@ -47,17 +47,17 @@ module _ {p n : ℕ} {selectors labels publics challenges scratch : List ℕ} (R
   rest-long transcript e =
       simp (length-take, length-drop) (omega (arith, rows-power p n (R .admissible .rows) .least))
 
-pub laid-length : (p n : ℕ) (C : Circuit) (v : ℕ → ℕ) (beta gamma : ℕ) → length (laidRows p n C v beta gamma) ≡ tStart n
+pub laid-length : (p n : ℕ) (C : Constraints) (v : ℕ → ℕ) (beta gamma : ℕ) → length (laidRows p n C v beta gamma) ≡ tStart n
 laid-length p n C v beta gamma = simp (length-append, interpolation-length) (omega arith)
 
 module _ (p n : ℕ) (selectors labels witness publics challenges first rest last : List ℕ) where
-  abbrev C : Circuit
-  C = lentCircuit n selectors labels
+  abbrev C : Constraints
+  C = lentConstraints n selectors labels
 
   abbrev laid : List ℕ
-  laid = laidRows p n (lentCircuit n selectors labels) (lentWitness n witness) (getD challenges 0 0) (getD challenges 1 0)
+  laid = laidRows p n (lentConstraints n selectors labels) (lentWitness n witness) (getD challenges 0 0) (getD challenges 1 0)
 
-  pub transcript-of : first ≡ laidRows p n (lentCircuit n selectors labels) (lentWitness n witness) (getD challenges 0 0) (getD challenges 1 0) ++ rest
+  pub transcript-of : first ≡ laidRows p n (lentConstraints n selectors labels) (lentWitness n witness) (getD challenges 0 0) (getD challenges 1 0) ++ rest
       → last ≡ take (tStart n) first ++ quotient p n (lentF p n selectors labels publics (take (tStart n) first) challenges)
       → last ≡ provedFrom p n selectors labels witness publics challenges
   transcript-of e f =

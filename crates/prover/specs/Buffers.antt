@@ -1,7 +1,7 @@
 -- What the inner functions ask of their buffers, and F as they speak of it.
 --
 -- lentF         F of a lent circuit that is prepared, public inputs, and a, b, c, z as they are laid
--- Ready         p and n are admissible; circuit, public inputs, challenges and scratch are lent rightly
+-- Ready         p and n are admissible; selectors, labels, public inputs, challenges and scratch are lent rightly
 -- Front         the same of labels, witness and transcript
 -- Checked       what the public call has checked
 -- checked-of    it has, where no reason applies
@@ -16,9 +16,9 @@ use Rattle.algebra.specs.Lists.{All}
 use Rattle.algebra.specs.Polynomial.{Elements}
 use Rattle.field.specs.Fields.{Admissible}
 use Rattle.transform.specs.Transform.{scratchLength}
-use Rattle.circuit.specs.Circuit.{Circuit, lentCircuit, lentPublic}
-use Rattle.circuit.specs.Buffers.{labelsLength, witnessLength, transcriptLength}
-use Rattle.circuit.specs.RightlyLent.{RightCircuit}
+use Rattle.circuit.specs.Circuit.{Constraints, lentConstraints, lentPublic}
+use Rattle.circuit.specs.Buffers.{selectorsLength, labelsLength, witnessLength, transcriptLength}
+use Rattle.circuit.specs.RightlyLent.{selectors-right, labels-right}
 use Rattle.protocol.specs.Protocol.{prepared, pointF, fOf, wiresOf, zOf, transcript}
 use Rattle.protocol.specs.Layout.{lent-F}
 use Rattle.protocol.specs.Lengths.{interpolation-length}
@@ -27,11 +27,12 @@ use Rattle.witnesses.specs.Accepted.{Accepted}
 
 abbrev pub lentF : (p n : ℕ) (selectors labels publics laid challenges : List ℕ) → List ℕ
 lentF p n selectors labels publics laid challenges =
-    pointF p n (prepared p n (lentCircuit n selectors labels)) (lentPublic publics) laid (getD challenges 0 0) (getD challenges 1 0) (getD challenges 2 0)
+    pointF p n (prepared p n (lentConstraints n selectors labels)) (lentPublic publics) laid (getD challenges 0 0) (getD challenges 1 0) (getD challenges 2 0)
 
 pub record Ready (p n : ℕ) (selectors labels publics challenges scratch : List ℕ) : Type 0 where
   pub admissible : Admissible p n
-  pub circuit-right : RightCircuit p n selectors labels
+  pub elements : Elements p (selectorsLength n) selectors
+  pub labelled : Elements (3 * n) (labelsLength n) labels
   pub publics-below : All (λ (x : ℕ). x < p) publics
   pub challenges-long : length challenges ≡ 3
   pub scratch-long : length scratch ≡ scratchLength n
@@ -55,14 +56,15 @@ checked-of A =
     record {
       ready = record {
         admissible = A .admissible;
-        circuit-right = A .circuit-right;
-        publics-below = A .publics-right .elements .below;
+        elements = selectors-right (A .circuit-right);
+        labelled = labels-right (A .circuit-right);
+        publics-below = A .publics-right .below;
         challenges-long = A .challenges-right .long;
         scratch-long = A .scratch-long;
       };
       front = record {
         admissible = A .admissible;
-        labelled = A .circuit-right .labels-right;
+        labelled = labels-right (A .circuit-right);
         elements = A .witness-right;
         transcript-long = A .transcript-long;
         challenges-long = A .challenges-right .long;
@@ -70,7 +72,7 @@ checked-of A =
       };
     }
 
-pub laid-F : (p n : ℕ) (C : Circuit) (x v : ℕ → ℕ) (beta gamma alpha : ℕ)
+pub laid-F : (p n : ℕ) (C : Constraints) (x v : ℕ → ℕ) (beta gamma alpha : ℕ)
     → pointF p n (prepared p n C) x (laidRows p n C v beta gamma) beta gamma alpha
     ≡ fOf p n C x (wiresOf p n v) (zOf p n C v beta gamma) beta gamma alpha
 laid-F p n C x v beta gamma alpha =

@@ -24,7 +24,7 @@ use Rattle.field.specs.Primes.{field-prime}
 use Rattle.field.specs.Reasons.{isAccepted}
 use Rattle.transform.specs.Transform.{evaluation, scratchLength}
 use Rattle.transform.specs.Interpolation.{interpolation-one}
-use Rattle.circuit.specs.Circuit.{Circuit, lentCircuit, lentPublic, lentWitness}
+use Rattle.circuit.specs.Circuit.{Constraints, lentConstraints, lentPublic, lentWitness}
 use Rattle.circuit.specs.Buffers.{preparedLength, zPart}
 use Rattle.circuit.specs.RightlyLent.{prepare-taken}
 use Rattle.protocol.specs.Protocol.{rowZ, wiresOf, zOf, tOf, prepared}
@@ -52,7 +52,7 @@ pub record PassesChecks (p n l : ℕ) (selectors labels witness publics challeng
       → r .verdict ≡ Pass
   -- whatever the written buffer and the scratches held before
   pub point-accepted : (written scratch : List ℕ) → length written ≡ preparedLength n → length scratch ≡ scratchLength n
-      → (r : Answer) (written' scratch' : List ℕ) → Prepares p n selectors labels written scratch r written' scratch'
+      → (r : Answer) (written' scratch' : List ℕ) → Prepares p n l selectors labels written scratch r written' scratch'
       → (zeta : ℕ) → zeta < p → (spare spare' : List ℕ) → length spare ≡ scratchLength n → (s : PointAnswer)
       → PointChecks p n l publics written' transcript' (getD challenges 0 0 ∷ getD challenges 1 0 ∷ getD challenges 2 0 ∷ zeta ∷ []) spare s spare'
       → s .verdict ≡ Accept
@@ -60,7 +60,7 @@ pub record PassesChecks (p n l : ℕ) (selectors labels witness publics challeng
 -- THE PROOF
 
 -- the values of z's polynomial at the domain points are z on the rows
-z-values : (p n : ℕ) → Admissible p n → (C : Circuit) (v : ℕ → ℕ) (beta gamma : ℕ)
+z-values : (p n : ℕ) → Admissible p n → (C : Constraints) (v : ℕ → ℕ) (beta gamma : ℕ)
     → evaluation p n (zOf p n C v beta gamma) ≡ tab (rowZ p n C v beta gamma) n
 unfolding evaluation
 z-values p n A C v beta gamma =
@@ -73,8 +73,8 @@ accepted-number a e = eqb-true (a .number) 0 e
 
 module _ (p n l : ℕ) (selectors labels witness publics transcript challenges scratch : List ℕ)
     (A : Accepted p n l selectors labels witness publics transcript challenges scratch) where
-  abbrev C : Circuit
-  C = lentCircuit n selectors labels
+  abbrev C : Constraints
+  C = lentConstraints n selectors labels
 
   abbrev beta : ℕ
   beta = getD challenges 0 0
@@ -94,7 +94,7 @@ module _ (p n l : ℕ) (selectors labels witness publics transcript challenges s
   below : (k : ℕ) → k < 3 → getD challenges k 0 < p
   below k h = all-getD (λ (c : ℕ). c < p) challenges (A .challenges-right .below) k (omega (arith, A .challenges-right .long))
 
-  z-lent : evaluation p n (zPart n laid) ≡ tab (rowZ p n (lentCircuit n selectors labels) (lentWitness n witness) (getD challenges 0 0) (getD challenges 1 0)) n
+  z-lent : evaluation p n (zPart n laid) ≡ tab (rowZ p n (lentConstraints n selectors labels) (lentWitness n witness) (getD challenges 0 0) (getD challenges 1 0)) n
   z-lent =
       ap (evaluation p n)
       (z-part n (wiresOf p n (lentWitness n witness)) (zOf p n C (lentWitness n witness) beta gamma) (tOf p n C (lentPublic publics) (lentWitness n witness) beta gamma alpha)

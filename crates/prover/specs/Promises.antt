@@ -12,12 +12,12 @@ use lib.ListN.{getD, replicate}
 use Rattle.field.specs.declared.Answer.{Answer}
 use Rattle.field.specs.Reasons.{answerOf, isAccepted}
 use Rattle.transform.specs.Transform.{scratchLength}
-use Rattle.circuit.specs.Circuit.{lentCircuit, lentPublic, lentWitness}
+use Rattle.circuit.specs.Circuit.{lentConstraints, lentPublic, lentWitness}
 use Rattle.protocol.specs.Protocol.{proved, proveReasons}
 
 abbrev pub provedFrom : (p n : ℕ) (selectors labels witness publics challenges : List ℕ) → List ℕ
 provedFrom p n selectors labels witness publics challenges =
-    proved p n (lentCircuit n selectors labels) (lentPublic publics) (lentWitness n witness) (getD challenges 0 0) (getD challenges 1 0) (getD challenges 2 0)
+    proved p n (lentConstraints n selectors labels) (lentPublic publics) (lentWitness n witness) (getD challenges 0 0) (getD challenges 1 0) (getD challenges 2 0)
 
 -- selectors, labels, witness, public inputs and challenges are only read
 pub record Proves (p n l : ℕ) (selectors labels witness publics transcript challenges scratch : List ℕ) (r : Answer) (transcript' scratch' : List ℕ) : Type 0 where

@@ -7,7 +7,7 @@ ghost use Prim.Native.Nat.{ℕ, _*_};
 ghost use lib.ListN.{length, getD, take, drop, replicate};
 ghost use Rattle.algebra.specs.Polynomial.{reduced};
 ghost use Rattle.transform.specs.Transform.{scratchLength};
-ghost use Rattle.circuit.specs.Circuit.{lentCircuit, lentWitness};
+ghost use Rattle.circuit.specs.Circuit.{lentConstraints, lentWitness};
 ghost use Rattle.circuit.specs.Buffers.{transcriptLength, tStart};
 ghost use Rattle.protocol.specs.Protocol.{quotient};
 ghost use Rattle.laying.specs.Rows.{laidRows};
@@ -90,7 +90,7 @@ fn lay_front(
     scratch: &mut [u32],
 )
     requires { ⌜ Front p n (now labels) (now witness) (now transcript) (now challenges) (now scratch) ⌝ }
-    ensures { λ _. ⌜ ((selectors : List ℕ) → now (transcript .exit) ≡ laidRows p n (lentCircuit n selectors (now (labels .entry))) (lentWitness n (now (witness .entry))) (getD (now (challenges .entry)) 0 0) (getD (now (challenges .entry)) 1 0) ++ drop (tStart n) (now (transcript .entry))) ⌝ }
+    ensures { λ _. ⌜ ((selectors : List ℕ) → now (transcript .exit) ≡ laidRows p n (lentConstraints n selectors (now (labels .entry))) (lentWitness n (now (witness .entry))) (getD (now (challenges .entry)) 0 0) (getD (now (challenges .entry)) 1 0) ++ drop (tStart n) (now (transcript .entry))) ⌝ }
 {
     let m = n as usize;
     let end = circuit::t_start(m);

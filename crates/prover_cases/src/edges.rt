@@ -14,8 +14,8 @@ use super::sheet::line;
 use super::sheet::numbers;
 use super::sheet::word;
 
-// Calls that are accepted. The sheet's transcript is 4,15,13,7,9,14,16,2,9,12,15; public inputs of 0 and another number for a lone label, further
-// down, leave it as it is.
+// Calls that are accepted. The sheet's transcript is 4,15,13,7,9,14,16,2,9,12,15; another number for a lone label, further down, leaves it as it is, and
+// public rows change t alone.
 fn accepted() {
     line(b"worked sheet", Case::sheet());
     word(b"alpha 0", CHALLENGES, 2, 0, 0, 0);
@@ -57,7 +57,7 @@ fn many_rows() {
 
 // Reason 4: l exceeds n.
 fn publics() {
-    numbers(b"l is 2, taken", 17, 2, 2, 0, 0);
+    numbers(b"l is 2, taken", 17, 2, 2, 14, 0);
     numbers(b"l is 3", 17, 2, 3, 4, 0);
     numbers(b"greatest l", 17, 2, 4294967295, 4, 0);
 }
@@ -121,21 +121,65 @@ fn labels() {
     );
 }
 
-// Reason 9: a gate fails. A public input of 1 is met by a qC of 1.
+// Reason 14: a row below l is no public row. The rows from l on may be anything.
+fn public_rows() {
+    line(
+        b"row 0 public, row 1 not, l is 1: taken",
+        Case::sheet().publics(1).bound(1),
+    );
+    line(
+        b"both rows public, l is n",
+        Case::sheet().publics(2).bound(2),
+    );
+    unbound(b"qL is 0", 0, 0);
+    unbound(b"qL is 2", 0, 2);
+    unbound(b"qR is 1", 2, 1);
+    unbound(b"qO is 16", 4, 16);
+    unbound(b"qM is 1", 6, 1);
+    unbound(b"qC is 1", 8, 1);
+    line(
+        b"row 1 alone is no public row",
+        Case::sheet().publics(2).bound(1).gives(14, 1),
+    );
+    line(
+        b"rows 0 and 1 are no public rows",
+        Case::sheet().publics(2).gives(14, 0),
+    );
+    line(b"public rows past l", Case::sheet().bound(2).gives(9, 0));
+}
+
+// A selector of row 0, which is public but for it.
+fn unbound(label: &[u8], place: usize, element: u32) {
+    line(
+        label,
+        Case::sheet()
+            .publics(1)
+            .bound(1)
+            .with(SELECTORS, place, element)
+            .gives(14, 0),
+    );
+}
+
+// Reason 9: a gate fails. A public row's gate holds for the one public input that is a's content.
 fn gates() {
     word(b"last content 11", WITNESS, 5, 11, 9, 1);
     word(b"first content 3", WITNESS, 0, 3, 9, 0);
     word(b"qC of row 1 is 1", SELECTORS, 9, 1, 9, 1);
     line(
-        b"a public input of 1",
-        Case::sheet().publics(1).with(PUBLICS, 0, 1).gives(9, 0),
-    );
-    line(
-        b"a public input of 1, with qC of 1",
+        b"a public input other than a",
         Case::sheet()
             .publics(1)
+            .bound(1)
             .with(PUBLICS, 0, 1)
-            .with(SELECTORS, 8, 1),
+            .gives(9, 0),
+    );
+    line(
+        b"a and its public input both 1",
+        Case::sheet()
+            .publics(1)
+            .bound(1)
+            .with(PUBLICS, 0, 1)
+            .with(WITNESS, 0, 1),
     );
     line(
         b"both rows fail",
@@ -235,6 +279,25 @@ fn first_words() {
             .gives(7, 18),
     );
     line(
+        b"8 before 14",
+        Case::sheet().publics(1).with(LABELS, 5, 6).gives(8, 5),
+    );
+    line(
+        b"14 before 9",
+        Case::sheet().publics(1).with(WITNESS, 5, 11).gives(14, 0),
+    );
+    line(
+        b"14 before 10",
+        Case::sheet().publics(1).with(LABELS, 2, 0).gives(14, 0),
+    );
+    line(
+        b"14 before 11",
+        Case::sheet()
+            .publics(1)
+            .with(CHALLENGES, 1, 14)
+            .gives(14, 0),
+    );
+    line(
         b"8 before 9",
         Case::sheet()
             .with(LABELS, 5, 6)
@@ -267,6 +330,7 @@ pub fn run() {
     lengths();
     elements();
     labels();
+    public_rows();
     gates();
     copies();
     denominators();

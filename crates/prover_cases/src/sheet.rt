@@ -28,11 +28,13 @@ struct Change {
     element: u32,
 }
 
-// A call to try: its numbers, a buffer that is one word too short and one that is one too long, two words put, and the expected answer.
+// A call to try: its numbers, how many of its rows are made public rows, a buffer that is one word too short and one that is one too long, two words
+// put, and the expected answer.
 pub struct Case {
     p: u32,
     n: u32,
     l: u32,
+    bound: u32,
     short: u32,
     long: u32,
     first: Change,
@@ -53,6 +55,7 @@ impl Case {
             p: 17,
             n: 2,
             l: 0,
+            bound: 0,
             short: 0,
             long: 0,
             first: none,
@@ -69,9 +72,15 @@ impl Case {
         self
     }
 
-    // l public inputs of 0.
+    // l public inputs: the contents of column a.
     pub fn publics(mut self, l: u32) -> Self {
         self.l = l;
+        self
+    }
+
+    // The first rows made public rows.
+    pub fn bound(mut self, rows: u32) -> Self {
+        self.bound = rows;
         self
     }
 
@@ -138,9 +147,23 @@ fn changes(case: Case, buffer: u32, xs: &mut [u32]) {
     apply(first, buffer, xs);
 }
 
+// The selectors of a public row, put in the place of a row's where a case makes it public: qL is 1, the others are 0.
+fn bind(case: Case, row: u32, xs: &mut [u32]) {
+    if row < case.bound {
+        let i = row as usize;
+        buffers::put(xs, i, 1);
+        buffers::put(xs, 2 + i, 0);
+        buffers::put(xs, 4 + i, 0);
+        buffers::put(xs, 6 + i, 0);
+        buffers::put(xs, 8 + i, 0);
+    }
+}
+
 // The sheet's selectors, with a word behind them.
 fn selectors_of(case: Case) -> [u32; 11] {
     let mut xs = [0, 1, 0, 1, 16, 16, 1, 0, 0, 0, 0];
+    bind(case, 0, &mut xs);
+    bind(case, 1, &mut xs);
     changes(case, SELECTORS, &mut xs);
     xs
 }
@@ -159,9 +182,9 @@ fn witness_of(case: Case) -> [u32; 7] {
     xs
 }
 
-// Public inputs of 0.
+// The contents of column a as public inputs, with words behind them.
 fn publics_of(case: Case) -> [u32; 4] {
-    let mut xs = [0; 4];
+    let mut xs = [2, 6, 0, 0];
     changes(case, PUBLICS, &mut xs);
     xs
 }

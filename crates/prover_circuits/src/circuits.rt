@@ -270,7 +270,36 @@ fn change_public(
     }
 }
 
-// The content of the last position raised: its gate fails. With qC made to fit, it differs from that of position 0.
+// qM of the last public row raised: it is no public row.
+fn change_public_row(
+    p: u32,
+    n: u32,
+    l: u32,
+    selectors: &[u32],
+    labels: &[u32],
+    witness: &[u32],
+    publics: &[u32],
+) {
+    if 0 < l {
+        let row = l - 1;
+        let changed = generate::raised(p, 3 * (n as usize) + row as usize, selectors);
+        let a = buffers::within(&changed, selectors.len());
+        refused(
+            b"last public row changed",
+            p,
+            n,
+            l,
+            &changed[..a],
+            labels,
+            witness,
+            publics,
+            14,
+            row,
+        );
+    }
+}
+
+// The content of the last position raised: its gate fails, unless it is in a public row. With qC made to fit, it differs from that of position 0.
 fn change_content(
     p: u32,
     n: u32,
@@ -286,19 +315,21 @@ fn change_content(
     let changed = generate::raised(p, last as usize, witness);
     let a = buffers::within(&changed, witness.len());
     let w = &changed[..a];
-    refused(
-        b"last content changed",
-        p,
-        n,
-        l,
-        selectors,
-        labels,
-        w,
-        publics,
-        9,
-        n - 1,
-    );
-    let fitted = generate::selectors(p, n, w, publics);
+    if l < n {
+        refused(
+            b"last content changed",
+            p,
+            n,
+            l,
+            selectors,
+            labels,
+            w,
+            publics,
+            9,
+            n - 1,
+        );
+    }
+    let fitted = generate::selectors(p, n, l, w);
     let b = buffers::within(&fitted, selectors.len());
     refused(
         b"last content changed, its gate made to hold",
@@ -355,6 +386,7 @@ fn lines(
         &challenges,
     );
     change_public(p, n, l, selectors, labels, witness, publics);
+    change_public_row(p, n, l, selectors, labels, witness, publics);
     change_content(p, n, l, selectors, labels, witness, publics);
 }
 
@@ -364,12 +396,13 @@ fn circuit(label: &[u8], p: u32, n: u32, l: u32, variables: u32)
 {
     let labels = generate::labels(n, variables);
     let witness = generate::contents(p, n, &labels);
-    let publics = generate::publics(p, n);
-    let d = buffers::within(&publics, l as usize);
-    let selectors = generate::selectors(p, n, &witness, &publics[..d]);
+    // column a stands first
+    let publics = generate::contents(p, n, &labels);
+    let selectors = generate::selectors(p, n, l, &witness);
     let a = buffers::within(&selectors, 5 * (n as usize));
     let b = buffers::within(&labels, 3 * (n as usize));
     let c = buffers::within(&witness, 3 * (n as usize));
+    let d = buffers::within(&publics, l as usize);
     lines(
         label,
         p,

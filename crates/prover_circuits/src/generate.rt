@@ -1,6 +1,7 @@
 // Circuits with contents that satisfy them, made from a fixed sequence of numbers.
 //
-// The labels are drawn first, each variable has a value, and qC is what makes each gate hold. A place past a buffer's end reads as 0.
+// The labels are drawn first, each variable has a value, and qC is what makes each gate hold. The rows below l are public rows, and their public
+// inputs the contents of column a. A place past a buffer's end reads as 0.
 use case_tools::buffers;
 
 // The number after x in the sequence.
@@ -91,13 +92,30 @@ fn wires(p: u32, n: u32, row: u32, selectors: &[u32], witness: &[u32]) -> u32 {
     mul_add(p, out, at(selectors, 3 * m + i), ab)
 }
 
-// The qC that makes each gate hold.
-fn fill_constants(p: u32, n: u32, selectors: &mut [u32], witness: &[u32], publics: &[u32]) {
+// The qC that makes each gate hold where there is no public input.
+fn fill_constants(p: u32, n: u32, selectors: &mut [u32], witness: &[u32]) {
     for row in 0..n {
         let w = wires(p, n, row, selectors, witness);
-        let x = at(publics, row as usize);
         let place = 4 * (n as usize) + row as usize;
-        buffers::put(selectors, place, minus(p, x, w));
+        buffers::put(selectors, place, minus(p, 0, w));
+    }
+}
+
+// The selectors of a public row: qL is 1, the others are 0.
+fn fill_public_row(n: u32, row: u32, selectors: &mut [u32]) {
+    let m = n as usize;
+    let i = row as usize;
+    buffers::put(selectors, i, 1);
+    buffers::put(selectors, m + i, 0);
+    buffers::put(selectors, 2 * m + i, 0);
+    buffers::put(selectors, 3 * m + i, 0);
+    buffers::put(selectors, 4 * m + i, 0);
+}
+
+// Those of the rows below l.
+fn fill_public_rows(n: u32, l: u32, selectors: &mut [u32]) {
+    for row in 0..l {
+        fill_public_row(n, row, selectors);
     }
 }
 
@@ -117,19 +135,14 @@ pub fn contents(p: u32, n: u32, labels: &[u32]) -> [u32; 3072] {
     xs
 }
 
-// Public inputs.
-pub fn publics(p: u32, n: u32) -> [u32; 1024] {
-    let mut xs = field::blank_1024();
-    fill(p, next(n), &mut xs);
-    xs
-}
-
-// Selectors whose gates the contents and the public inputs satisfy. The last qO is -1.
-pub fn selectors(p: u32, n: u32, witness: &[u32], publics: &[u32]) -> [u32; 8192] {
+// Selectors whose gates the contents satisfy, with l public rows, whose public inputs are the contents of column a. The last qO is -1 where its row
+// is no public row.
+pub fn selectors(p: u32, n: u32, l: u32, witness: &[u32]) -> [u32; 8192] {
     let mut xs = field::blank_8192();
     fill(p, next(next(n)), &mut xs);
     buffers::put(&mut xs, last_position(n), minus(p, 0, 1));
-    fill_constants(p, n, &mut xs, witness, publics);
+    fill_constants(p, n, &mut xs, witness);
+    fill_public_rows(n, l, &mut xs);
     xs
 }
 

@@ -162,7 +162,7 @@ pub fn print_rows(
 }
 
 // The prepared circuit.
-fn prepared_of(p: u32, n: u32, selectors: &[u32], labels: &[u32]) -> [u32; 8192] {
+fn prepared_of(p: u32, n: u32, l: u32, selectors: &[u32], labels: &[u32]) -> [u32; 8192] {
     let mut prepared = field::blank_8192();
     let mut scratch = buffers::long();
     let a = buffers::within(&prepared, 8 * (n as usize));
@@ -170,6 +170,7 @@ fn prepared_of(p: u32, n: u32, selectors: &[u32], labels: &[u32]) -> [u32; 8192]
     preparing::prepare(
         p,
         n,
+        l,
         selectors,
         labels,
         &mut prepared[..a],
@@ -189,7 +190,7 @@ pub fn print_points(
     transcript: &[u32],
     challenges: &[u32],
 ) {
-    let prepared = prepared_of(p, n, selectors, labels);
+    let prepared = prepared_of(p, n, l, selectors, labels);
     let a = buffers::within(&prepared, 8 * (n as usize));
     print::number(accepted(p, n, l, publics, &prepared[..a], transcript, challenges));
     print::word(b"of");

@@ -17,7 +17,7 @@ pub checked : (p n l : ℕ) (selectors labels witness publics z challenges : Lis
 checked p n l selectors labels witness publics z challenges e =
     let known =
     lent-numbers-of p n l (length selectors ∷ length labels ∷ length witness ∷ length publics ∷ length z ∷ length challenges ∷ []) (rowsDue n l)
-    (selectors ++ (witness ++ (publics ++ (z ++ challenges)))) labels refl e in
+    (selectors ++ (witness ++ (publics ++ (z ++ challenges)))) selectors labels refl e in
     let lent = known .0 in
     let long : length labels ≡ 3 * n = cc (lent .lengths) in
     record {

@@ -12,7 +12,7 @@ use mathlib.Core.List.{List}
 use Prim.Native.Nat.{ℕ}
 use lib.ListN.{getD}
 use Rattle.field.specs.Reasons.{answerOf, isAccepted}
-use Rattle.circuit.specs.Circuit.{lentCircuit, lentPublic, lentWitness}
+use Rattle.circuit.specs.Circuit.{lentConstraints, lentPublic, lentWitness}
 use Rattle.circuit.specs.Reasons.{rowsReasons}
 use Rattle.protocol.specs.Protocol.{gateIdentity, startIdentity, stepIdentity, RowVerdict, pass, fails, rowVerdict}
 use Rattle.protocol.specs.Protocol as protocol
@@ -40,5 +40,5 @@ pub record ChecksRows (p n l : ℕ) (selectors labels witness publics z challeng
   pub verdict :
       r .verdict
       ≡ cond (isAccepted (r .answer))
-      (verdictOf (rowVerdict p n (lentCircuit n selectors labels) (lentPublic publics) (lentWitness n witness) (lentZ z) (getD challenges 0 0) (getD challenges 1 0)))
+      (verdictOf (rowVerdict p n (lentConstraints n selectors labels) (lentPublic publics) (lentWitness n witness) (lentZ z) (getD challenges 0 0) (getD challenges 1 0)))
       None

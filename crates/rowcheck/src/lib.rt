@@ -3,7 +3,7 @@
 // The public call is `check_rows`. The functions of `rows` and `tables` are for the prover too, which has checked its numbers.
 ghost use mathlib.Core.Path.{_≡_};
 ghost use lib.ListN.{getD};
-ghost use Rattle.circuit.specs.Circuit.{lentCircuit, lentPublic, lentWitness};
+ghost use Rattle.circuit.specs.Circuit.{lentConstraints, lentPublic, lentWitness};
 ghost use Rattle.protocol.specs.Protocol.{rowVerdict};
 ghost use Rattle.rowcheck.specs.Promises.{verdictOf, lentZ, ChecksRows};
 ghost use Rattle.rowcheck.specs.Buffers.{Checked};
@@ -45,7 +45,7 @@ fn work(
     challenges: &[u32],
 ) -> Verdict
     requires { ⌜ Checked p n (now selectors) (now labels) (now witness) (now z) (now challenges) ⌝ }
-    ensures { λ r. ⌜ r ≡ verdictOf (rowVerdict p n (lentCircuit n (now (selectors .entry)) (now (labels .entry))) (lentPublic (now (publics .entry))) (lentWitness n (now (witness .entry))) (lentZ (now (z .entry))) (getD (now (challenges .entry)) 0 0) (getD (now (challenges .entry)) 1 0)) ⌝ }
+    ensures { λ r. ⌜ r ≡ verdictOf (rowVerdict p n (lentConstraints n (now (selectors .entry)) (now (labels .entry))) (lentPublic (now (publics .entry))) (lentWitness n (now (witness .entry))) (lentZ (now (z .entry))) (getD (now (challenges .entry)) 0 0) (getD (now (challenges .entry)) 1 0)) ⌝ }
 {
     let m = n as usize;
     let k = 3 * m;

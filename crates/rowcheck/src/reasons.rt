@@ -4,7 +4,7 @@ ghost use Rattle.field.specs.Reasons.{answerOf};
 ghost use Rattle.circuit.specs.Reasons.{rowsReasons};
 use field::Answer;
 
-// The reasons in order: p, n, l and the lengths; then the numbers and the labels in the buffers.
+// The reasons in order: p, n, l and the lengths; then the numbers, the labels and the public rows in the buffers.
 pub fn decide(
     p: u32,
     n: u32,
@@ -35,5 +35,5 @@ pub fn decide(
     let at = field::first_of_four(p, selectors, witness, publics, z);
     let four = selectors.len() + witness.len() + publics.len() + z.len();
     let place = field::then_above(p, at, four, challenges);
-    circuit::decide_numbers(n, place, four + challenges.len(), labels)
+    circuit::decide_numbers(n, l, place, four + challenges.len(), selectors, labels)
 }

@@ -74,6 +74,22 @@ fn public(label: &[u8], l: u32, publics: &[u32], z: &[u32]) {
     worked(label, l, publics, &[2, 6, 3, 6, 6, 12], z, &[1, 1]);
 }
 
+// Other selectors and labels, with public inputs, and the sheet's contents, z and challenges.
+fn bound(label: &[u8], l: u32, selectors: &[u32], labels: &[u32], publics: &[u32]) {
+    case(
+        label,
+        17,
+        2,
+        l,
+        selectors,
+        labels,
+        &[2, 6, 3, 6, 6, 12],
+        publics,
+        &[1, 14],
+        &[1, 1],
+    );
+}
+
 fn verdicts() {
     let contents = [2, 6, 3, 6, 6, 12];
     let others = [2, 5, 3, 7, 6, 12];
@@ -83,8 +99,62 @@ fn verdicts() {
     filled(b"wrong step to row 1", &contents, &[1, 13], &[1, 1]);
     filled(b"row 1 as 5,7,12", &others, &[1, 14], &[1, 1]);
     filled(b"row 1 as 5,7,12, beta 0", &others, &[1, 1], &[0, 1]);
-    public(b"two public inputs of 0", 2, &[0, 0], &[1, 14]);
-    public(b"a public input of 1", 1, &[1], &[1, 14]);
+}
+
+// Public rows: their gates hold for the contents of a alone; and every selector of row 0 wrong in turn.
+fn public_rows() {
+    let labels = [0, 2, 1, 2, 2, 3];
+    let large = [0, 2, 1, 2, 2, 6];
+    let one = [1, 1, 0, 1, 0, 16, 0, 0, 0, 0];
+    let both = [1, 1, 0, 0, 0, 0, 0, 0, 0, 0];
+    bound(b"row 0 public, l is 1", 1, &one, &labels, &[2]);
+    bound(b"both rows public, l is n", 2, &both, &labels, &[2, 6]);
+    bound(b"a public input other than a", 1, &one, &labels, &[1]);
+    bound(b"the second other than a", 2, &both, &labels, &[2, 5]);
+    bound(
+        b"qL is 0",
+        1,
+        &[0, 1, 0, 1, 0, 16, 0, 0, 0, 0],
+        &labels,
+        &[2],
+    );
+    bound(
+        b"qR is 1",
+        1,
+        &[1, 1, 1, 1, 0, 16, 0, 0, 0, 0],
+        &labels,
+        &[2],
+    );
+    bound(
+        b"qO is 16",
+        1,
+        &[1, 1, 0, 1, 16, 16, 0, 0, 0, 0],
+        &labels,
+        &[2],
+    );
+    bound(
+        b"qM is 1",
+        1,
+        &[1, 1, 0, 1, 0, 16, 1, 0, 0, 0],
+        &labels,
+        &[2],
+    );
+    bound(
+        b"qC is 1",
+        1,
+        &[1, 1, 0, 1, 0, 16, 0, 0, 1, 0],
+        &labels,
+        &[2],
+    );
+    bound(b"row 1 is no public row", 2, &one, &labels, &[2, 6]);
+    public(b"neither is a public row", 2, &[0, 0], &[1, 14]);
+    bound(
+        b"8 before 14",
+        1,
+        &[0, 1, 0, 1, 0, 16, 0, 0, 0, 0],
+        &large,
+        &[2],
+    );
 }
 
 fn lengths() {
@@ -147,6 +217,7 @@ fn circuits() {
 
 pub fn run() {
     verdicts();
+    public_rows();
     lengths();
     elements();
     circuits();

@@ -3,7 +3,7 @@
 -- first-long, first-bad, first-read   the first line's reasons: the sheet is too long; the line is out of form; it was read
 -- three            the words of the first line
 -- lines-bad, lines-extra, lines-right   the reason of the lines behind it: one is out of form; one is extra; neither
--- table-reasons    the reasons of the elements, read off the table
+-- table-reasons    the reasons of the numbers, read off the table
 -- full-of          the table has room for the lines of the n and l that the reasons leave
 -- begun            what reading the lines behind the first asks
 -- behind           where the first line was read, the reasons behind its own answer for all
@@ -32,7 +32,7 @@ use Rattle.sheet.specs.Sheet.{sheetRows, sheetP, sheetN, sheetL, linesDu
 use Rattle.sheet.specs.Table.{Held, Full, Begins, Room}
 use Rattle.sheet.specs.Deciding.{tableNumbers, Opened, Decides, first-numbers, Taken}
 use Rattle.sheet.proofs.LineLaws.{second-start}
-use Rattle.sheet.proofs.TableLaws.{elements-same, labels-list-same}
+use Rattle.sheet.proofs.TableLaws.{elements-same, selectors-list-same, labels-list-same}
 
 -- THE FIRST LINE
 
@@ -71,7 +71,8 @@ module _ (s : List ℕ) (n l bad : ℕ) (is : bad ≡ badLine s n l) where
 
 pub table-reasons : (s : List ℕ) (p n l : ℕ) (t : List ℕ) → Full n l t → Held s n l (linesDue n l) t
     → answerOf (tableNumbers p n l t) ≡ answerOf (sheetNumbers s p n l)
-table-reasons s p n l t full held = rw (elements-same s n l t full held, labels-list-same s n l t full held)
+table-reasons s p n l t full held =
+    rw (elements-same s n l t full held, selectors-list-same s n l t full held, labels-list-same s n l t full held)
 
 -- WHAT IS KNOWN
 

@@ -1,7 +1,7 @@
 -- A table that holds all lines of a sheet has its numbers, as they are lent.
 --
 -- selectors-same, labels-same, witness-same, publics-same, challenges-same   number k of each buffer
--- elements-same, labels-list-same   the elements end to end, and the labels
+-- elements-same, selectors-list-same, labels-list-same   the elements end to end, the selectors and the labels
 -- elements-long   how many elements the table has
 --
 -- Assumes nothing.
@@ -60,9 +60,12 @@ module _ (s : List ℕ) (n l : ℕ) (t : List ℕ) (full : Full n l t) (held : H
       let b : k / 1 ≡ k = div-one k in
       word (n + n + l + 1 + k % 1) (0 + k / 1) (n + n + l + 1) k (omega arith) (omega arith) (omega arith) (omega arith) (omega (arith, due-challenges n l (n + n + l + 1 + k % 1) (omega arith)))
 
+  pub selectors-list-same : tab (selectorsIn t n) (selectorsLength n) ≡ tab (onSelectors s n l) (selectorsLength n)
+  selectors-list-same = tab-ext (selectorsIn t n) (onSelectors s n l) (selectorsLength n) selectors-same
+
   pub elements-same : tableElements n l t ≡ sheetElements s n l
   elements-same =
-      ap₂ (λ (a b : List ℕ). a ++ b) (tab-ext (selectorsIn t n) (onSelectors s n l) (selectorsLength n) selectors-same)
+      ap₂ (λ (a b : List ℕ). a ++ b) selectors-list-same
       (ap₂ (λ (a b : List ℕ). a ++ b) (tab-ext (witnessIn t n) (onWitness s n l) (witnessLength n) witness-same)
       (ap₂ (λ (a b : List ℕ). a ++ b) (tab-ext (publicsIn t n) (onPublics s n l) l publics-same)
       (tab-ext (challengesIn t n l) (onChallenges s n l) 4 challenges-same)))

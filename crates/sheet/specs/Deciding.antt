@@ -1,6 +1,7 @@
 -- The reasons of `read` as its functions test them, and what is known past them.
 --
--- tableNumbers           the reasons of the numbers, read off the table
+-- tableCircuit           the reasons of the circuit, 8 and 14, read off the table
+-- tableNumbers           the reasons of all its numbers
 -- Opened s p n l at      what is known where no reason of the first line applies: p, n, l, and line 1 starts at `at`
 -- Decides s long r t     what deciding promises of its answer r and of the table t, `long` being the table of lengths
 -- first-numbers          no reason of the first line has number 0
@@ -17,18 +18,24 @@ use native.Mathlib.Omega.{arith}
 use lib.ListN.{length}
 use Rattle.algebra.specs.Lists.{All, tab}
 use Rattle.field.specs.Lent.{Shape, shape-numbers, shaped, lengths-same}
-use Rattle.field.specs.Reasons.{Reason, answerOf, isAccepted, shapeReasons, badLengths}
+use Rattle.field.specs.Reasons.{Reason, answerOf, isAccepted, shapeReasons, badLengths, badElement}
 use Rattle.field.specs.ReasonLaws.{none-applies, both-none}
-use Rattle.circuit.specs.Buffers.{labelsLength}
-use Rattle.circuit.specs.Reasons.{numberReasons}
+use Rattle.circuit.specs.Buffers.{selectorsLength, labelsLength}
+use Rattle.circuit.specs.Circuit.{lentConstraints}
+use Rattle.circuit.specs.Reasons.{badLabel, badPublicRow}
 use Rattle.circuit.specs.RightlyLent.{numbers-of}
 use Rattle.text.specs.Text.{fieldAt}
 use Rattle.sheet.specs.declared.SheetAnswer.{SheetAnswer}
-use Rattle.sheet.specs.Sheet.{sheetRows, linesDue, sheetP, sheetN, sheetL, onLabels, sheetElements, badFirst, firstReasons, lineReasons, sheetDue, sheetNumbers, behindReasons, readReasons}
-use Rattle.sheet.specs.Table.{Held, labelsIn, tableElements}
+use Rattle.sheet.specs.Sheet.{sheetRows, linesDue, sheetP, sheetN, sheetL, onSelectors, onLabels, sheetElements, badFirst, firstReasons, lineReasons, sheetDue, sheetNumbers, behindReasons, readReasons}
+use Rattle.sheet.specs.Table.{Held, selectorsIn, labelsIn, tableElements}
+
+abbrev pub tableCircuit : ℕ → ℕ → List ℕ → List Reason
+tableCircuit n l t =
+    badLabel n (tab (labelsIn t n) (labelsLength n))
+    ∷ badPublicRow (lentConstraints n (tab (selectorsIn t n) (selectorsLength n)) (tab (labelsIn t n) (labelsLength n))) l ∷ []
 
 abbrev pub tableNumbers : ℕ → ℕ → ℕ → List ℕ → List Reason
-tableNumbers p n l t = numberReasons p n (tableElements n l t) (tab (labelsIn t n) (labelsLength n))
+tableNumbers p n l t = badElement p (tableElements n l t) ∷ tableCircuit n l t
 
 pub record Opened (s : List ℕ) (p n l at : ℕ) : Type 0 where
   pub short : length s ≤ 65536
@@ -68,5 +75,5 @@ taken-of s long h e =
     record {
       shape = shaped p n l sheetRows _ refl (both-none (badFirst s ∷ []) (shapeReasons p n l sheetRows) (omega arith, tt) (first .0) .1);
       lengths = lengths-same long due h (none-applies (badLengths long due ∷ []) (omega arith, tt) (lengths .0) .0);
-      elements = numbers-of p n (sheetElements s n l) (tab (onLabels s n l) (labelsLength n)) (lengths .1) .0;
+      elements = numbers-of p n l (sheetElements s n l) (tab (onSelectors s n l) (selectorsLength n)) (tab (onLabels s n l) (labelsLength n)) (lengths .1) .0;
     }

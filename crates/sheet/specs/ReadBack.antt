@@ -6,7 +6,7 @@
 -- sheetLine            the numbers of line i of that text
 -- picked               what holds of both of two things holds of the one that a test picks
 -- some-due             every line has a number
--- Admitted             what the reasons ask of the numbers: p and n are admissible on a sheet, l is at most n, elements are below p, labels below 3n
+-- Admitted             what the reasons ask of the numbers: p and n are admissible on a sheet, selectors and labels are a circuit, elements are below p
 -- sheet-taken          a sheet that reads so, of at most 65,536 bytes, is accepted, where the lent buffers have the lengths due
 --
 -- Assumes nothing.
@@ -16,7 +16,7 @@ use mathlib.Core.List.{List, [], _∷_, _++_}
 use Prim.Native.Nat.{ℕ, zero, suc, _+_, _*_, _-_, _/_, _%_, _≤_, _<_}
 use native.Mathlib.Nat.{mod-lt, div-lt-iff-lt-mul, div-add-mod'}
 use native.Mathlib.Omega.{arith}
-use lib.Dec.{eqb, leb}
+use lib.Dec.{eqb, leb, ltb}
 use lib.ListN.{length, getD, length-append, List·getD-append}
 use lib.Seq.{getD-append-add}
 use borrow.Author.Tests.{ne-eqb, le-leb, lt-leb, le-ltb}
@@ -26,7 +26,10 @@ use Rattle.field.specs.Fields.{isField, isRows}
 use Rattle.field.specs.Lent.{lengths-none}
 use Rattle.field.specs.ReasonLaws.{elements-none}
 use Rattle.transform.specs.Parts.{laid}
+use Rattle.circuit.specs.Circuit.{lentConstraints}
 use Rattle.circuit.specs.Buffers.{selectorsLength, labelsLength, witnessLength}
+use Rattle.circuit.specs.Reasons.{unboundRow}
+use Rattle.circuit.specs.RightlyLent.{RightCircuit, selectors-right, labels-right, at-none, bound}
 use Rattle.text.specs.Text.{isLineAt, lineOf}
 use Rattle.sheet.specs.Sheet.{sheetRows, fieldsDue, linesDue, lineAt, numberOf, sheetP, sheetN, sheetL, badLine, isExtra, onSelectors, onLabels, onWitness, onPublics, onChallenges, sheetElements, sheetDue, readAnswer}
 use Rattle.sheet.specs.Written.{column, circuitLine, witnessLine, publicLine, sheetText, Small, Right}
@@ -240,24 +243,25 @@ pub record Admitted (s : List ℕ) (p n l : ℕ) (selectors labels witness publi
   pub one-of-three : isField p ≡ true
   pub rows : isRows p n ≡ true
   pub few : n ≤ sheetRows
-  pub inputs : l ≤ n
-  pub selectors-below : All (λ (x : ℕ). x < p) selectors
+  pub circuit-right : RightCircuit p n l selectors labels
   pub witness-below : All (λ (x : ℕ). x < p) witness
   pub publics-below : All (λ (x : ℕ). x < p) publics
   pub challenges-below : All (λ (x : ℕ). x < p) challenges
-  pub labels-below : All (λ (x : ℕ). x < 3 * n) labels
 
 module _ (s : List ℕ) (p n l : ℕ) (selectors labels witness publics challenges : List ℕ) (back : SheetBack s p n l selectors labels witness publics challenges)
     (taken : Admitted s p n l selectors labels witness publics challenges) where
   elements-below : All (λ (x : ℕ). x < p) (sheetElements s n l)
   elements-below =
       rw (back .selectors-are, back .witness-is, back .publics-are, back .challenges-are)
-      (all-append (λ (x : ℕ). x < p) selectors (witness ++ (publics ++ challenges)) (taken .selectors-below)
+      (all-append (λ (x : ℕ). x < p) selectors (witness ++ (publics ++ challenges)) (selectors-right (taken .circuit-right) .below)
       (all-append (λ (x : ℕ). x < p) witness (publics ++ challenges) (taken .witness-below)
       (all-append (λ (x : ℕ). x < p) publics challenges (taken .publics-below) (taken .challenges-below))))
 
   lent-labels-below : All (λ (x : ℕ). x < 3 * n) (tab (onLabels s n l) (labelsLength n))
-  lent-labels-below = rw (back .labels-are) (taken .labels-below)
+  lent-labels-below = rw (back .labels-are) (labels-right (taken .circuit-right) .below)
+
+  none-unbound : ltb (unboundRow (lentConstraints n (tab (onSelectors s n l) (selectorsLength n)) (tab (onLabels s n l) (labelsLength n))) l) l ≡ false
+  none-unbound = rw (back .selectors-are, back .labels-are) (at-none (bound (taken .circuit-right .circuit)))
 
   pub sheet-taken : readAnswer s ≡ record { number = 0; detail = 0 }
   sheet-taken =
@@ -268,11 +272,12 @@ module _ (s : List ℕ) (p n l : ℕ) (selectors labels witness publics challeng
         taken .one-of-three,
         taken .rows,
         le-ltb sheetRows n (taken .few),
-        le-ltb n l (taken .inputs),
+        le-ltb n l (taken .circuit-right .circuit .publics-few),
         back .none-bad,
         le-ltb (linesDue n l) (linesDue n l) (omega arith),
         back .none-extra,
         lengths-none {long = sheetDue (length s)} refl,
         elements-none p (sheetElements s n l) elements-below,
         elements-none (3 * n) (tab (onLabels s n l) (labelsLength n)) lent-labels-below,
+        none-unbound,
       ))

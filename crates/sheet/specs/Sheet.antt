@@ -19,7 +19,7 @@
 -- firstReasons         of the first line: this, and those of p, n and l, which stand on it
 -- lineReasons          of the lines behind it
 -- sheetDue bytes       the lengths due, for a sheet of so many bytes
--- sheetNumbers         of the elements and labels, as they are lent
+-- sheetNumbers         of the elements, labels and public rows, as they are lent
 -- behindReasons        all reasons behind those of the first line, `long` being the table of lengths
 -- readReasons s long   all reasons of `read`
 -- sheetReasons         the same, for the lengths of the five lent buffers
@@ -121,7 +121,8 @@ sheetDue bytes =
     bytes ∷ selectorsLength sheetRows ∷ labelsLength sheetRows ∷ witnessLength sheetRows ∷ sheetRows ∷ 4 ∷ []
 
 abbrev pub sheetNumbers : List ℕ → ℕ → ℕ → ℕ → List Reason
-sheetNumbers s p n l = numberReasons p n (sheetElements s n l) (tab (onLabels s n l) (labelsLength n))
+sheetNumbers s p n l =
+    numberReasons p n l (sheetElements s n l) (tab (onSelectors s n l) (selectorsLength n)) (tab (onLabels s n l) (labelsLength n))
 
 abbrev pub behindReasons : (s : List ℕ) (p n l : ℕ) (long : List ℕ) → List Reason
 behindReasons s p n l long = lineReasons s n l ++ (badLengths long (sheetDue (length s)) ∷ sheetNumbers s p n l)

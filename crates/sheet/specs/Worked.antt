@@ -2,6 +2,7 @@
 --
 -- bytes        the sheet
 -- without i, with i more   the sheet with byte i left out, and with more bytes before byte i
+-- publicBytes, changed i b, twoPublic   the sheet with row 0 made a public row; that sheet with another byte i; that sheet with l = 2
 -- Worked, worked   what is read off the sheet, and the answers to it and to sheets near it; that they are so
 --
 -- Assumes nothing.
@@ -15,6 +16,7 @@ use Rattle.algebra.specs.Modular.{first}
 use Rattle.field.specs.Fields.{isField, isRows, greatestRows}
 use Rattle.field.specs.Reasons.{answerOf, firstOther, firstAbove}
 use Rattle.transform.specs.Parts.{laid}
+use Rattle.circuit.specs.Reasons.{unboundRow}
 use Rattle.text.specs.Text.{isDigit, digitsEnd, valueOf, isNumberAt, numberAt, fieldAt, isFieldAt, isLineAt, decimalOf, fieldsOf}
 use Rattle.sheet.specs.Sheet.{fieldsDue, lineAt, numberOf, sheetP, sheetN, sheetL, badLine, onSelectors, onLabels, onWitness, onPublics, onChallenges, sheetReasons, readAnswer}
 use Rattle.sheet.specs.Written.{sheetText}
@@ -36,6 +38,25 @@ without i = take i bytes ++ drop (suc i) bytes
 
 abbrev pub with : ℕ → List ℕ → List ℕ
 with i more = take i bytes ++ (more ++ drop i bytes)
+
+-- the same with row 0 made a public row, and the content 2 of its a as public input
+abbrev pub publicBytes : List ℕ
+publicBytes =
+    49 ∷ 55 ∷ 44 ∷ 50 ∷ 44 ∷ 49 ∷ 10
+    ∷ 49 ∷ 44 ∷ 48 ∷ 44 ∷ 48 ∷ 44 ∷ 48 ∷ 44 ∷ 48 ∷ 44 ∷ 48 ∷ 44 ∷ 49 ∷ 44 ∷ 50 ∷ 10
+    ∷ 49 ∷ 44 ∷ 49 ∷ 44 ∷ 49 ∷ 54 ∷ 44 ∷ 48 ∷ 44 ∷ 48 ∷ 44 ∷ 50 ∷ 44 ∷ 50 ∷ 44 ∷ 51 ∷ 10
+    ∷ 50 ∷ 44 ∷ 51 ∷ 44 ∷ 54 ∷ 10
+    ∷ 54 ∷ 44 ∷ 54 ∷ 44 ∷ 49 ∷ 50 ∷ 10
+    ∷ 50 ∷ 10
+    ∷ 49 ∷ 44 ∷ 49 ∷ 44 ∷ 50 ∷ 44 ∷ 50 ∷ 10
+    ∷ []
+
+-- that sheet with another byte i; and with l = 2 and the content 6 of a as second public input
+abbrev pub changed : ℕ → ℕ → List ℕ
+changed i b = take i publicBytes ++ (b ∷ drop (suc i) publicBytes)
+
+abbrev pub twoPublic : List ℕ
+twoPublic = take 55 (changed 5 50) ++ (54 ∷ 10 ∷ drop 55 publicBytes)
 
 pub record Worked : Type 0 where
   pub p-is : sheetP bytes ≡ 17
@@ -64,11 +85,19 @@ pub record Worked : Type 0 where
   -- 1 before the last content, 12: it is 112, and place 15 of the elements; 1 before the last label, 3: it is 13, and position 5
   pub high : readAnswer (with 51 (49 ∷ [])) ≡ record { number = 7; detail = 15 }
   pub high-label : readAnswer (with 39 (49 ∷ [])) ≡ record { number = 8; detail = 5 }
+  -- row 0 is a public row; qL is 0, qR, qO, qM, qC are 1 in turn; row 1 is none, and l is 2
+  pub public-row : readAnswer publicBytes ≡ record { number = 0; detail = 0 }
+  pub qL-none : readAnswer (changed 7 48) ≡ record { number = 14; detail = 0 }
+  pub qR-one : readAnswer (changed 9 49) ≡ record { number = 14; detail = 0 }
+  pub qO-one : readAnswer (changed 11 49) ≡ record { number = 14; detail = 0 }
+  pub qM-one : readAnswer (changed 13 49) ≡ record { number = 14; detail = 0 }
+  pub qC-one : readAnswer (changed 15 49) ≡ record { number = 14; detail = 0 }
+  pub second-row : readAnswer twoPublic ≡ record { number = 14; detail = 1 }
   -- the witness has room for 767 numbers
   pub short : answerOf (sheetReasons bytes 1280 768 767 256 4) ≡ record { number = 6; detail = 4 }
 
 pub worked : Worked
-unfolding tab first isDigit digitsEnd valueOf isNumberAt numberAt fieldAt isFieldAt isLineAt fieldsDue lineAt numberOf badLine isField isRows greatestRows firstOther firstAbove laid decimalOf fieldsOf ones
+unfolding tab first isDigit digitsEnd valueOf isNumberAt numberAt fieldAt isFieldAt isLineAt fieldsDue lineAt numberOf badLine isField isRows greatestRows firstOther firstAbove unboundRow laid decimalOf fieldsOf ones
 worked =
     record {
       p-is = refl;
@@ -91,5 +120,12 @@ worked =
       zero-ahead = refl;
       high = refl;
       high-label = refl;
+      public-row = refl;
+      qL-none = refl;
+      qR-one = refl;
+      qO-one = refl;
+      qM-one = refl;
+      qC-one = refl;
+      second-row = refl;
       short = refl;
     }

@@ -3,7 +3,7 @@
 -- THE STATEMENT
 -- RowsPass              the pair (beta, gamma) is one for which some answer of `check_rows`, lent the wires' witness and the row values of some z, is Pass
 -- PointAccepts          the zeta is one for which some answer of `check_point`, lent the prepared circuit and the transcript, is Accept
--- AnswersCounted        how few pairs, alphas and zetas there are for a cheat, and that an honest witness gets Pass and Accept
+-- AnswersCounted        what the public inputs bind, how few pairs, alphas and zetas there are for a cheat, and that an honest witness gets Pass and Accept
 -- THE THEOREM
 -- answers-counted       AnswersCounted holds for every admissible p and n, and every circuit and public inputs that are lent rightly
 --
@@ -19,21 +19,21 @@ use lib.ListN.{length}
 use Rattle.algebra.specs.Lists.{AtMost, tab}
 use Rattle.algebra.specs.Polynomial.{Elements}
 use Rattle.algebra.specs.PolynomialLaws.{tab-elements}
-use Rattle.algebra.specs.Tables.{getD-tab}
+use Rattle.algebra.specs.Tables.{getD-tab, all-getD}
 use Rattle.algebra.specs.Counting.{at-most-of}
 use Rattle.field.specs.Fields.{Admissible}
 use Rattle.field.specs.Primes.{field-prime}
 use Rattle.field.specs.Reasons.{answerOf, isAccepted}
 use Rattle.field.specs.declared.Answer.{Answer}
 use Rattle.transform.specs.Transform.{valueAt, evaluation, scratchLength}
-use Rattle.circuit.specs.Circuit.{Circuit, position, gate, Satisfies, lentCircuit, lentPublic, lentWitness, laidWitness}
-use Rattle.circuit.specs.Witness.{lent-laid, laid-elements}
+use Rattle.circuit.specs.Circuit.{Constraints, position, gate, Satisfies, lentConstraints, lentPublic, lentWitness, laidWitness}
+use Rattle.circuit.specs.Witness.{lent-laid, laid-elements, lent-below}
 use Rattle.circuit.specs.Buffers.{witnessLength, quotientLength}
 use Rattle.circuit.specs.Reasons.{rowsReasons}
-use Rattle.circuit.specs.RightlyLent.{RightCircuit, RightPublics, rows-taken, point-taken}
+use Rattle.circuit.specs.RightlyLent.{RightCircuit, rows-taken, point-taken}
 use Rattle.protocol.specs.Protocol.{RowVerdict, pass, fails, rowVerdict, rowN, rowD, rowZ, prepared, transcript, proved, zeroFactor}
 use Rattle.protocol.specs.Rows.{RowHolds, passed-row, rows-pass, rowZ-lt}
-use Rattle.protocol.specs.Demand3.{witnessOf, PassingPair, HoldingAlpha, AcceptedZeta, demand-3}
+use Rattle.protocol.specs.Demand3.{witnessOf, PassingPair, HoldingAlpha, AcceptedZeta, Demand3, demand-3}
 use Rattle.rowcheck.specs.declared.RowAnswer.{RowAnswer}
 use Rattle.rowcheck.specs.declared.Verdict.the-variants.{None, Pass}
 use Rattle.rowcheck.specs.Promises.{verdictOf, lentZ, ChecksRows}
@@ -62,46 +62,50 @@ module _ (p n l : ℕ) (selectors labels publics : List ℕ) (wire : ℕ → Lis
     pub scratch : List ℕ
     pub scratch' : List ℕ
     pub r : PointAnswer
-    pub checks : PointChecks p n l publics (prepared p n (lentCircuit n selectors labels)) (transcript wire z t) (pair .0 ∷ pair .1 ∷ alpha ∷ zeta ∷ []) scratch r scratch'
+    pub checks : PointChecks p n l publics (prepared p n (lentConstraints n selectors labels)) (transcript wire z t) (pair .0 ∷ pair .1 ∷ alpha ∷ zeta ∷ []) scratch r scratch'
     pub accepts : r .verdict ≡ judged.Accept
 
 -- the lent circuit and public inputs
 pub record AnswersCounted (p n l : ℕ) (selectors labels publics : List ℕ) : Type 0 where
+  -- a witness that satisfies the circuit has the public inputs at a, in the rows below l
+  pub publics-bound : (witness : List ℕ) → Elements p (witnessLength n) witness
+      → Satisfies p n (lentConstraints n selectors labels) (lentPublic publics) (lentWitness n witness)
+      → (i : ℕ) → i < l → lentWitness n witness (position n 0 i) ≡ lentPublic publics i
   -- the witness of the three wires breaks a gate or gives one variable two values: at most (3n - 1) × p pairs let some z get the answer Pass
   pub few-pairs : (wire : ℕ → List ℕ) → ((c : ℕ) → c < 3 → Elements p n (wire c))
-      → (Satisfies p n (lentCircuit n selectors labels) (lentPublic publics) (witnessOf p n wire) → ⊥)
+      → (Satisfies p n (lentConstraints n selectors labels) (lentPublic publics) (witnessOf p n wire) → ⊥)
       → AtMost ((3 * n - 1) * p) (RowsPass p n l selectors labels publics wire)
   -- any of the other pairs, and any z: at most 2 alphas let some quotient hold
   pub few-alphas : (wire : ℕ → List ℕ) → ((c : ℕ) → c < 3 → Elements p n (wire c))
       → (pair : ℕ × ℕ) → pair .0 < p → pair .1 < p → (RowsPass p n l selectors labels publics wire pair → ⊥)
       → (z : List ℕ) → Elements p n z
-      → AtMost 2 (HoldingAlpha p n (lentCircuit n selectors labels) (lentPublic publics) wire z pair)
+      → AtMost 2 (HoldingAlpha p n (lentConstraints n selectors labels) (lentPublic publics) wire z pair)
   -- any of the other alphas, and any t: at most 4n - 4 zetas get the answer Accept
   pub few-zetas : (wire : ℕ → List ℕ) → ((c : ℕ) → c < 3 → Elements p n (wire c))
       → (pair : ℕ × ℕ) (alpha : ℕ) → alpha < p → (z : List ℕ) → Elements p n z
-      → (HoldingAlpha p n (lentCircuit n selectors labels) (lentPublic publics) wire z pair alpha → ⊥)
+      → (HoldingAlpha p n (lentConstraints n selectors labels) (lentPublic publics) wire z pair alpha → ⊥)
       → (t : List ℕ) → Elements p (quotientLength n) t
       → AtMost (4 * n - 4) (PointAccepts p n l selectors labels publics wire z t pair alpha)
   -- a witness that satisfies the circuit, no zero factor of any D(i), and z on the rows: the row check answers Pass
   pub honest-rows : (witness : List ℕ) → Elements p (witnessLength n) witness
-      → Satisfies p n (lentCircuit n selectors labels) (lentPublic publics) (lentWitness n witness)
-      → (beta gamma : ℕ) → beta < p → gamma < p → zeroFactor p n (lentCircuit n selectors labels) (lentWitness n witness) beta gamma ≡ n
+      → Satisfies p n (lentConstraints n selectors labels) (lentPublic publics) (lentWitness n witness)
+      → (beta gamma : ℕ) → beta < p → gamma < p → zeroFactor p n (lentConstraints n selectors labels) (lentWitness n witness) beta gamma ≡ n
       → (r : RowAnswer)
-      → ChecksRows p n l selectors labels witness publics (tab (rowZ p n (lentCircuit n selectors labels) (lentWitness n witness) beta gamma) n) (beta ∷ gamma ∷ []) r
+      → ChecksRows p n l selectors labels witness publics (tab (rowZ p n (lentConstraints n selectors labels) (lentWitness n witness) beta gamma) n) (beta ∷ gamma ∷ []) r
       → r .verdict ≡ Pass
   -- the same witness, and the transcript that the prover lays: the point check answers Accept, for every alpha and zeta
   pub honest-point : (witness : List ℕ)
-      → Satisfies p n (lentCircuit n selectors labels) (lentPublic publics) (lentWitness n witness)
-      → (beta gamma : ℕ) → beta < p → gamma < p → zeroFactor p n (lentCircuit n selectors labels) (lentWitness n witness) beta gamma ≡ n
+      → Satisfies p n (lentConstraints n selectors labels) (lentPublic publics) (lentWitness n witness)
+      → (beta gamma : ℕ) → beta < p → gamma < p → zeroFactor p n (lentConstraints n selectors labels) (lentWitness n witness) beta gamma ≡ n
       → (alpha zeta : ℕ) → alpha < p → zeta < p → (scratch scratch' : List ℕ) → length scratch ≡ scratchLength n → (r : PointAnswer)
-      → PointChecks p n l publics (prepared p n (lentCircuit n selectors labels))
-      (proved p n (lentCircuit n selectors labels) (lentPublic publics) (lentWitness n witness) beta gamma alpha)
+      → PointChecks p n l publics (prepared p n (lentConstraints n selectors labels))
+      (proved p n (lentConstraints n selectors labels) (lentPublic publics) (lentWitness n witness) beta gamma alpha)
       (beta ∷ gamma ∷ alpha ∷ zeta ∷ []) scratch r scratch'
       → r .verdict ≡ judged.Accept
 
 -- THE SAME ROWS, THE SAME VERDICT
 
-module _ (p n : ℕ) (C : Circuit) (x v v' z z' : ℕ → ℕ) (beta gamma : ℕ) (same-v : (k : ℕ) → k < 3 * n → v k ≡ v' k) (same-z : (i : ℕ) → i < n → z i ≡ z' i) where
+module _ (p n : ℕ) (C : Constraints) (x v v' z z' : ℕ → ℕ) (beta gamma : ℕ) (same-v : (k : ℕ) → k < 3 * n → v k ≡ v' k) (same-z : (i : ℕ) → i < n → z i ≡ z' i) where
   same-gate : (i : ℕ) → i < n → gate p n C x v i ≡ gate p n C x v' i
   unfolding gate
   same-gate i h = cc (same-v (position n 0 i) (omega arith), same-v (position n 1 i) (omega arith), same-v (position n 2 i) (omega arith))
@@ -149,8 +153,8 @@ unfolding evaluation
 evaluation-elements p n h z = tab-elements (valueAt p n z) n (λ k l. mod-lt _ h)
 
 module _ (p n l : ℕ) (selectors labels publics : List ℕ) where
-  abbrev C : Circuit
-  C = lentCircuit n selectors labels
+  abbrev C : Constraints
+  C = lentConstraints n selectors labels
 
   abbrev x : ℕ → ℕ
   x = lentPublic publics
@@ -159,7 +163,7 @@ module _ (p n l : ℕ) (selectors labels publics : List ℕ) where
     abbrev lent : List ℕ
     lent = laidWitness n (witnessOf p n wire)
 
-    passing : (pair : ℕ × ℕ) → RowsPass p n l selectors labels publics wire pair → PassingPair p n (lentCircuit n selectors labels) (lentPublic publics) wire pair
+    passing : (pair : ℕ × ℕ) → RowsPass p n l selectors labels publics wire pair → PassingPair p n (lentConstraints n selectors labels) (lentPublic publics) wire pair
     passing pair h =
         record {
           beta-element = h .beta-element;
@@ -174,7 +178,7 @@ module _ (p n l : ℕ) (selectors labels publics : List ℕ) where
         }
 
     accepted-zeta : (z t : List ℕ) (pair : ℕ × ℕ) (alpha zeta : ℕ) → PointAccepts p n l selectors labels publics wire z t pair alpha zeta
-        → AcceptedZeta p n (lentCircuit n selectors labels) (lentPublic publics) wire z t pair alpha zeta
+        → AcceptedZeta p n (lentConstraints n selectors labels) (lentPublic publics) wire z t pair alpha zeta
     accepted-zeta z t pair alpha zeta h =
         record {
           zeta-element = h .zeta-element;
@@ -182,8 +186,8 @@ module _ (p n l : ℕ) (selectors labels publics : List ℕ) where
         }
 
     -- a pair for which some z passes gets the answer Pass, the buffers being lent rightly
-    answered : Admissible p n → RightCircuit p n selectors labels → RightPublics p n l publics → (pair : ℕ × ℕ)
-        → PassingPair p n (lentCircuit n selectors labels) (lentPublic publics) wire pair → RowsPass p n l selectors labels publics wire pair
+    answered : Admissible p n → RightCircuit p n l selectors labels → Elements p l publics → (pair : ℕ × ℕ)
+        → PassingPair p n (lentConstraints n selectors labels) (lentPublic publics) wire pair → RowsPass p n l selectors labels publics wire pair
     answered A right rightX pair h =
         let positive : 0 < p = omega (arith, field-prime p (A .one-of-three) .two) in
         let values : List ℕ = evaluation p n (h .z) in
@@ -212,25 +216,28 @@ module _ (p n l : ℕ) (selectors labels publics : List ℕ) where
 
 -- THE THEOREM
 
-module _ (p n : ℕ) (A : Admissible p n) (l : ℕ) (selectors labels publics : List ℕ) (right : RightCircuit p n selectors labels)
-    (rightX : RightPublics p n l publics) where
+module _ (p n : ℕ) (A : Admissible p n) (l : ℕ) (selectors labels publics : List ℕ) (right : RightCircuit p n l selectors labels)
+    (rightX : Elements p l publics) where
   abbrev two : 1 < p
   two = field-prime p (A .one-of-three) .two
 
+  abbrev demand : Demand3 p n l (lentConstraints n selectors labels)
+  demand = demand-3 p n l A (lentConstraints n selectors labels) (right .circuit)
+
   honest-rows : (witness : List ℕ) → Elements p (witnessLength n) witness
-      → Satisfies p n (lentCircuit n selectors labels) (lentPublic publics) (lentWitness n witness)
-      → (beta gamma : ℕ) → beta < p → gamma < p → zeroFactor p n (lentCircuit n selectors labels) (lentWitness n witness) beta gamma ≡ n
+      → Satisfies p n (lentConstraints n selectors labels) (lentPublic publics) (lentWitness n witness)
+      → (beta gamma : ℕ) → beta < p → gamma < p → zeroFactor p n (lentConstraints n selectors labels) (lentWitness n witness) beta gamma ≡ n
       → (r : RowAnswer)
-      → ChecksRows p n l selectors labels witness publics (tab (rowZ p n (lentCircuit n selectors labels) (lentWitness n witness) beta gamma) n) (beta ∷ gamma ∷ []) r
+      → ChecksRows p n l selectors labels witness publics (tab (rowZ p n (lentConstraints n selectors labels) (lentWitness n witness) beta gamma) n) (beta ∷ gamma ∷ []) r
       → r .verdict ≡ Pass
   honest-rows witness elements sat beta gamma hb hg nonzero r checks =
-      let Z : ℕ → ℕ = rowZ p n (lentCircuit n selectors labels) (lentWitness n witness) beta gamma in
+      let Z : ℕ → ℕ = rowZ p n (lentConstraints n selectors labels) (lentWitness n witness) beta gamma in
       let drawn : Elements p 2 (beta ∷ gamma ∷ []) = record { long = refl; below = (hb, (hg, tt)) } in
       let verdict =
-      same-pass p n (lentCircuit n selectors labels) (lentPublic publics) (lentWitness n witness) (lentWitness n witness) Z (lentZ (tab Z n)) beta gamma
+      same-pass p n (lentConstraints n selectors labels) (lentPublic publics) (lentWitness n witness) (lentWitness n witness) Z (lentZ (tab Z n)) beta gamma
       (λ k u. refl)
       (λ i u. sym (getD-tab Z n i u))
-      (demand-3 p n A .completeness _ _ _ sat beta gamma nonzero .z-passes) in
+      (demand .completeness _ _ sat beta gamma nonzero .z-passes) in
       checks .verdict
       ∙ answer-pass _ _
       (checks .answer
@@ -238,11 +245,11 @@ module _ (p n : ℕ) (A : Admissible p n) (l : ℕ) (selectors labels publics : 
       verdict
 
   honest-point : (witness : List ℕ)
-      → Satisfies p n (lentCircuit n selectors labels) (lentPublic publics) (lentWitness n witness)
-      → (beta gamma : ℕ) → beta < p → gamma < p → zeroFactor p n (lentCircuit n selectors labels) (lentWitness n witness) beta gamma ≡ n
+      → Satisfies p n (lentConstraints n selectors labels) (lentPublic publics) (lentWitness n witness)
+      → (beta gamma : ℕ) → beta < p → gamma < p → zeroFactor p n (lentConstraints n selectors labels) (lentWitness n witness) beta gamma ≡ n
       → (alpha zeta : ℕ) → alpha < p → zeta < p → (scratch scratch' : List ℕ) → length scratch ≡ scratchLength n → (r : PointAnswer)
-      → PointChecks p n l publics (prepared p n (lentCircuit n selectors labels))
-      (proved p n (lentCircuit n selectors labels) (lentPublic publics) (lentWitness n witness) beta gamma alpha)
+      → PointChecks p n l publics (prepared p n (lentConstraints n selectors labels))
+      (proved p n (lentConstraints n selectors labels) (lentPublic publics) (lentWitness n witness) beta gamma alpha)
       (beta ∷ gamma ∷ alpha ∷ zeta ∷ []) scratch r scratch'
       → r .verdict ≡ judged.Accept
   honest-point witness sat beta gamma hb hg nonzero alpha zeta ha hz scratch scratch' long r checks =
@@ -250,21 +257,24 @@ module _ (p n : ℕ) (A : Admissible p n) (l : ℕ) (selectors labels publics : 
       checks .verdict
       ∙ answer-accept _ _
       (checks .answer
-      ∙ point-taken A scratch rightX (demand-3 p n A .prepared-long (lentCircuit n selectors labels))
-      (demand-3 p n A .proved-long (lentCircuit n selectors labels) (lentPublic publics) (lentWitness n witness) beta gamma alpha)
+      ∙ point-taken A scratch (right .circuit .publics-few) rightX (demand .prepared-long)
+      (demand .proved-long (lentPublic publics) (lentWitness n witness) beta gamma alpha)
       drawn
       long)
-      (demand-3 p n A .completeness _ _ _ sat beta gamma nonzero .accepted alpha zeta)
+      (demand .completeness _ _ sat beta gamma nonzero .accepted alpha zeta)
 
   pub answers-counted : AnswersCounted p n l selectors labels publics
   answers-counted =
       record {
+        publics-bound = λ witness elements sat i h.
+            demand .binding _ _ sat i h (all-getD (λ (x : ℕ). x < p) publics (rightX .below) i (omega (arith, rightX .long)))
+            (lent-below n elements (position n 0 i) (omega (arith, right .circuit .publics-few)));
         few-pairs = λ wire elements broken.
-            at-most-of (demand-3 p n A .soundness _ _ wire elements .pairs broken) (passing p n l selectors labels publics wire) (omega arith);
+            at-most-of (demand .soundness _ wire elements .pairs broken) (passing p n l selectors labels publics wire) (omega arith);
         few-alphas = λ wire elements pair hb hg none z ez.
-            demand-3 p n A .soundness _ _ wire elements .alphas pair hb hg (λ h. none (answered p n l selectors labels publics wire A right rightX pair h)) z ez;
+            demand .soundness _ wire elements .alphas pair hb hg (λ h. none (answered p n l selectors labels publics wire A right rightX pair h)) z ez;
         few-zetas = λ wire elements pair alpha ha z ez none t et.
-            at-most-of (demand-3 p n A .soundness _ _ wire elements .zetas pair alpha ha z ez none t et)
+            at-most-of (demand .soundness _ wire elements .zetas pair alpha ha z ez none t et)
             (accepted-zeta p n l selectors labels publics wire z t pair alpha)
             (omega arith);
         honest-rows = honest-rows;

@@ -9,13 +9,10 @@
 -- Assumes nothing.
 use mathlib.Core.Path.{_≡_, refl}
 use mathlib.Core.Logic.{_≢_}
-use mathlib.Core.Bool.{false}
 use mathlib.Core.List.{List, [], _∷_, _++_}
 use Prim.Native.Nat.{ℕ, _*_, _≤_, _<_}
 use native.Mathlib.Omega.{arith}
-use lib.Dec.{ltb}
 use lib.ListN.{length, getD}
-use borrow.Author.Tests.{ltb-false, le-ltb}
 use Rattle.algebra.specs.Lists.{All}
 use Rattle.algebra.specs.Polynomial.{Elements}
 use Rattle.algebra.specs.Search.{first-le}
@@ -25,39 +22,33 @@ use Rattle.field.specs.Lent.{Lent}
 use Rattle.field.specs.Reasons.{Reason, answerOf}
 use Rattle.field.specs.ReasonLaws.{none-applies, taken, both-none, both-taken}
 use Rattle.transform.specs.Transform.{scratchLength}
-use Rattle.circuit.specs.Circuit.{Circuit, lentCircuit, lentPublic, lentWitness, Satisfies}
+use Rattle.circuit.specs.Circuit.{Constraints, lentConstraints, lentPublic, lentWitness, Satisfies}
 use Rattle.circuit.specs.Buffers.{witnessLength, transcriptLength}
-use Rattle.circuit.specs.Reasons.{proveDue, proveBufferReasons}
-use Rattle.circuit.specs.RightlyLent.{RightCircuit, RightPublics, lent-numbers-of, lent-numbers-taken}
+use Rattle.circuit.specs.Reasons.{unboundRow, proveDue, proveBufferReasons}
+use Rattle.circuit.specs.RightlyLent.{RightCircuit, selectors-right, at-end, at-none, circuit-of, lent-numbers-of, lent-numbers-taken}
 use Rattle.protocol.specs.Protocol.{brokenGate, brokenCopy, zeroFactor, witnessReasons, proveReasons}
 use Rattle.protocol.specs.Conditions.{satisfied, unbroken}
 
 pub record Accepted (p n l : ℕ) (selectors labels witness publics transcript challenges scratch : List ℕ) : Type 0 where
   pub admissible : Admissible p n
-  pub circuit-right : RightCircuit p n selectors labels
-  pub publics-right : RightPublics p n l publics
+  pub circuit-right : RightCircuit p n l selectors labels
+  pub publics-right : Elements p l publics
   pub witness-right : Elements p (witnessLength n) witness
   pub transcript-long : length transcript ≡ transcriptLength n
   pub challenges-right : Elements p 3 challenges
   pub scratch-long : length scratch ≡ scratchLength n
-  pub satisfies : Satisfies p n (lentCircuit n selectors labels) (lentPublic publics) (lentWitness n witness)
-  pub no-zero : zeroFactor p n (lentCircuit n selectors labels) (lentWitness n witness) (getD challenges 0 0) (getD challenges 1 0) ≡ n
+  pub satisfies : Satisfies p n (lentConstraints n selectors labels) (lentPublic publics) (lentWitness n witness)
+  pub no-zero : zeroFactor p n (lentConstraints n selectors labels) (lentWitness n witness) (getD challenges 0 0) (getD challenges 1 0) ≡ n
 
-at-end : {a m : ℕ} → a ≤ m → ltb a m ≡ false → a ≡ m
-at-end {a} {m} h e = omega (arith, ltb-false a m e)
-
-at-none : {a m : ℕ} → a ≡ m → ltb a m ≡ false
-at-none {a} {m} e = le-ltb a m (omega arith)
-
-brokenGate-le : (p n : ℕ) (C : Circuit) (x v : ℕ → ℕ) → brokenGate p n C x v ≤ n
+brokenGate-le : (p n : ℕ) (C : Constraints) (x v : ℕ → ℕ) → brokenGate p n C x v ≤ n
 unfolding brokenGate
 brokenGate-le p n C x v = first-le _ n
 
-brokenCopy-le : (n : ℕ) (C : Circuit) (v : ℕ → ℕ) → brokenCopy n C v ≤ 3 * n
+brokenCopy-le : (n : ℕ) (C : Constraints) (v : ℕ → ℕ) → brokenCopy n C v ≤ 3 * n
 unfolding brokenCopy
 brokenCopy-le n C v = first-le _ (3 * n)
 
-zeroFactor-le : (p n : ℕ) (C : Circuit) (v : ℕ → ℕ) (beta gamma : ℕ) → zeroFactor p n C v beta gamma ≤ n
+zeroFactor-le : (p n : ℕ) (C : Constraints) (v : ℕ → ℕ) (beta gamma : ℕ) → zeroFactor p n C v beta gamma ≤ n
 unfolding zeroFactor
 zeroFactor-le p n C v beta gamma = first-le _ n
 
@@ -74,14 +65,15 @@ module _ (p n l : ℕ) (selectors labels witness publics transcript challenges s
 
   abbrev ofWitness : List Reason
   ofWitness =
-      witnessReasons p n (lentCircuit n selectors labels) (lentPublic publics) (lentWitness n witness) (getD challenges 0 0) (getD challenges 1 0)
+      witnessReasons p n (lentConstraints n selectors labels) (lentPublic publics) (lentWitness n witness) (getD challenges 0 0) (getD challenges 1 0)
 
   pub buffer-numbers : All (λ r. r .number ≢ 0) buffers
-  buffer-numbers = (omega arith, (omega arith, (omega arith, (omega arith, (omega arith, (omega arith, tt))))))
+  buffer-numbers = (omega arith, (omega arith, (omega arith, (omega arith, (omega arith, (omega arith, (omega arith, tt)))))))
 
   pub buffers-of : answerOf buffers .number ≡ 0
-      → Lent p n l long (proveDue n l) × (All (λ (a : ℕ). a < p) elements × All (λ (k : ℕ). k < 3 * n) labels)
-  buffers-of = lent-numbers-of p n l long (proveDue n l) elements labels refl
+      → Lent p n l long (proveDue n l)
+      × (All (λ (a : ℕ). a < p) elements × All (λ (k : ℕ). k < 3 * n) labels × (unboundRow (lentConstraints n selectors labels) l ≡ l))
+  buffers-of = lent-numbers-of p n l long (proveDue n l) elements selectors labels refl
 
   pub accepted-of : answerOf (proveReasons p n l selectors labels witness publics transcript challenges scratch) .number ≡ 0
       → Accepted p n l selectors labels witness publics transcript challenges scratch
@@ -95,11 +87,12 @@ module _ (p n l : ℕ) (selectors labels witness publics transcript challenges s
       let broken = none-applies ofWitness (omega arith, (omega arith, (omega arith, tt))) (both .1) in
       record {
         admissible = lent .admissible;
-        circuit-right = record {
-          selectors-right = record { long = cc (lent .lengths); below = all-left P selectors _ (known .1 .0) };
-          labels-right = record { long = cc (lent .lengths); below = known .1 .1 };
-        };
-        publics-right = record { few = lent .publics-few; elements = record { long = cc (lent .lengths); below = all-left P publics _ last } };
+        circuit-right =
+            circuit-of (lent .publics-few)
+            (record { long = cc (lent .lengths); below = all-left P selectors _ (known .1 .0) })
+            (record { long = cc (lent .lengths); below = known .1 .1 })
+            (known .1 .2);
+        publics-right = record { long = cc (lent .lengths); below = all-left P publics _ last };
         witness-right = record { long = cc (lent .lengths); below = all-left P witness _ later };
         transcript-long = cc (lent .lengths);
         challenges-right = record { long = cc (lent .lengths); below = all-right P publics _ last };
@@ -112,13 +105,16 @@ module _ (p n l : ℕ) (selectors labels witness publics transcript challenges s
       → answerOf (proveReasons p n l selectors labels witness publics transcript challenges scratch) ≡ record { number = 0; detail = 0 }
   prove-taken A =
       let P : ℕ → Type 0 = λ a. a < p in
-      let C = A .circuit-right in
-      let X = A .publics-right .elements in
+      let R = A .circuit-right in
       let whole = unbroken p n _ _ _ (A .satisfies) in
       both-taken buffers ofWitness buffer-numbers
-      (lent-numbers-taken p n l long (proveDue n l) elements labels
-      (record { admissible = A .admissible; publics-few = A .publics-right .few; lengths = cc })
-      (all-append P selectors _ (C .selectors-right .below)
-      (all-append P witness _ (A .witness-right .below) (all-append P publics _ (X .below) (A .challenges-right .below))))
-      (C .labels-right .below))
+      (lent-numbers-taken p n l long (proveDue n l) elements selectors labels
+      (record {
+        admissible = A .admissible;
+        publics-few = R .circuit .publics-few;
+        lengths = cc (R .selectors-long, R .labels-long, A .witness-right .long, A .publics-right .long, A .transcript-long, A .challenges-right .long, A .scratch-long);
+      })
+      (all-append P selectors _ (selectors-right R .below)
+      (all-append P witness _ (A .witness-right .below) (all-append P publics _ (A .publics-right .below) (A .challenges-right .below))))
+      R)
       (taken ofWitness (at-none (whole .0), (at-none (whole .1), (at-none (A .no-zero), tt))))

@@ -4,7 +4,7 @@
 ghost use mathlib.Core.Path.{_≡_};
 ghost use lib.ListN.{getD};
 ghost use Rattle.field.specs.Reasons.{answerOf};
-ghost use Rattle.circuit.specs.Circuit.{lentCircuit, lentPublic, lentWitness};
+ghost use Rattle.circuit.specs.Circuit.{lentConstraints, lentPublic, lentWitness};
 ghost use Rattle.protocol.specs.Protocol.{witnessReasons, proveReasons};
 ghost use Rattle.witnesses.specs.Buffers.{Checked};
 use field::Answer;
@@ -23,7 +23,7 @@ fn of_witness(
     challenges: &[u32],
 ) -> Answer
     requires { ⌜ Checked p n (now selectors) (now labels) (now witness) (now challenges) ⌝ }
-    ensures { λ r. ⌜ r ≡ answerOf (witnessReasons p n (lentCircuit n (now (selectors .entry)) (now (labels .entry))) (lentPublic (now (publics .entry))) (lentWitness n (now (witness .entry))) (getD (now (challenges .entry)) 0 0) (getD (now (challenges .entry)) 1 0)) ⌝ }
+    ensures { λ r. ⌜ r ≡ answerOf (witnessReasons p n (lentConstraints n (now (selectors .entry)) (now (labels .entry))) (lentPublic (now (publics .entry))) (lentWitness n (now (witness .entry))) (getD (now (challenges .entry)) 0 0) (getD (now (challenges .entry)) 1 0)) ⌝ }
 {
     let m = n as usize;
     let row = scans::broken_gate(p, m, selectors, witness, publics);

@@ -1,10 +1,10 @@
-// The reasons of p, n, l and the buffers: document 01's 2 to 8. Nothing is written.
+// The reasons of p, n, l and the buffers: document 01's 2 to 8, and document 02's 14. Nothing is written.
 ghost use mathlib.Core.Path.{_≡_};
 ghost use Rattle.field.specs.Reasons.{answerOf};
 ghost use Rattle.circuit.specs.Reasons.{proveBufferReasons};
 use field::Answer;
 
-// The reasons in order: p, n, l and the lengths; then the numbers and the labels in the buffers. The transcript and the scratch are looked at for their length only.
+// The reasons in order: p, n, l and the lengths; then the numbers, the labels and the public rows in the buffers. The transcript and the scratch are looked at for their length only.
 pub fn of_buffers(
     p: u32,
     n: u32,
@@ -36,5 +36,5 @@ pub fn of_buffers(
     }
     let at = field::first_of_four(p, selectors, witness, publics, challenges);
     let count = selectors.len() + witness.len() + publics.len() + challenges.len();
-    circuit::decide_numbers(n, at, count, labels)
+    circuit::decide_numbers(n, l, at, count, selectors, labels)
 }

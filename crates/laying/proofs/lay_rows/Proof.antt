@@ -6,7 +6,7 @@ use lib.ListN.{length}
 use lib.Seq.{length-take-le}
 use borrow.Author.Needs.{needs}
 use Rattle.algebra.specs.Ends.{rest-length, both-parts}
-use Rattle.circuit.specs.Circuit.{lentCircuit, lentWitness}
+use Rattle.circuit.specs.Circuit.{lentConstraints, lentWitness}
 use Rattle.laying.proofs.ZLaws.{wires-laid}
 use Rattle.laying.proofs.lay_rows.Statement.{statement}
 use Rattle.laying.proofs.lay_rows.Tie as tie
@@ -66,7 +66,7 @@ returns c selectors =
     let w = c .before .before .before .before .before .before .before .before .before .before .before .lay-wires in
     let z = c .before .before .before .before .lay-z in
     both-parts (d .z-start .result) (a .out .now) (w .last .1 .1 .1 .1 .1 .0) (fits d) (w .kept .1 .1 .1 .1 .1 .0) (z .last .1 .1 .1 .1 .1 .1 .1 .0) _ _ (w .ensures) (z .ensures selectors)
-    ∙ wires-laid (a .p) (a .n) (lentWitness (a .n) (a .witness .now)) (lentCircuit (a .n) selectors (a .labels .now)) (a .beta) (a .gamma)
+    ∙ wires-laid (a .p) (a .n) (lentWitness (a .n) (a .witness .now)) (lentConstraints (a .n) selectors (a .labels .now)) (a .beta) (a .gamma)
 
 pub lay-rows-spec : {M : Type 1} → statement M
 lay-rows-spec =

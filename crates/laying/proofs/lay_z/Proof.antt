@@ -3,7 +3,7 @@ use mathlib.Core.Path.{_∙_}
 use mathlib.Core.List.{[]}
 use borrow.Author.Needs.{needs}
 use Rattle.field.specs.Primes.{field-prime}
-use Rattle.circuit.specs.Circuit.{lentCircuit, lentWitness}
+use Rattle.circuit.specs.Circuit.{lentConstraints, lentWitness}
 use Rattle.laying.proofs.ZLaws.{z-elements, z-polynomial}
 use Rattle.laying.proofs.lay_z.Statement.{statement}
 use Rattle.laying.proofs.lay_z.Tie as tie
@@ -20,7 +20,7 @@ interpolate-in-place-requires c κs =
     record {
       domain-lent = s .pre .0 .points;
       elements =
-          z-elements (a .p) (a .n) (lentCircuit (a .n) [] (a .labels .now)) (lentWitness (a .n) (a .witness .now)) (a .beta) (a .gamma) _
+          z-elements (a .p) (a .n) (lentConstraints (a .n) [] (a .labels .now)) (lentWitness (a .n) (a .witness .now)) (a .beta) (a .gamma) _
           (c .before .before .before .before .z-rows .ensures [])
           (field-prime _ (s .pre .0 .points .admissible .one-of-three) .two);
       spare = s .pre .1 .1;
@@ -36,7 +36,7 @@ returns : tie.Need-returns
 returns c selectors =
     let a = c .before .before .before .before .before .before .before .before .before .before .before .before .before .before .before .before .args in
     c .before .before .before .before .interpolate-in-place .ensures
-    ∙ z-polynomial (a .p) (a .n) (lentCircuit (a .n) selectors (a .labels .now)) (lentWitness (a .n) (a .witness .now)) (a .beta) (a .gamma) _
+    ∙ z-polynomial (a .p) (a .n) (lentConstraints (a .n) selectors (a .labels .now)) (lentWitness (a .n) (a .witness .now)) (a .beta) (a .gamma) _
     (c .before .before .before .before .before .before .before .before .before .z-rows .ensures selectors)
 
 pub lay-z-spec : {M : Type 1} → statement M

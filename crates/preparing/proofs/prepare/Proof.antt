@@ -10,7 +10,7 @@ decide-requires : tie.Need-decide-requires
 decide-requires c κs = search needs
 
 work-requires : tie.Need-work-requires
-work-requires c κs = checked _ _ _ _ _ _ (sym (ap (λ a. a .number) (c .before .before .before .decide .ensures)) ∙ c .before .before .if1 .taken)
+work-requires c κs = checked _ _ _ _ _ _ _ (sym (ap (λ a. a .number) (c .before .before .before .decide .ensures)) ∙ c .before .before .if1 .taken)
 
 same-length : tie.Need-same-length
 same-length c = search needs

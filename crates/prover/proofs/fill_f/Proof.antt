@@ -54,8 +54,8 @@ work-requires c κs =
     let R = start (c .before .before .before .before) .pre .0 in
     record {
       admissible = R .admissible;
-      elements = R .circuit-right .selectors-right;
-      labelled = R .circuit-right .labels-right;
+      elements = R .elements;
+      labelled = R .labelled;
       written-length = length-take-le _ _ (prepared-fit (c .before .before .before)) ∙ c .before .before .before .before .prepared-length .ensures;
       scratch-length = R .scratch-long;
     }

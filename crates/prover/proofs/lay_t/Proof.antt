@@ -9,7 +9,7 @@ use borrow.Author.Needs.{needs}
 use Rattle.algebra.specs.Ends.{rest-put}
 use Rattle.algebra.specs.Polynomial.{reduced}
 use Rattle.field.specs.Primes.{rows-power, field-prime}
-use Rattle.circuit.specs.Circuit.{lentCircuit, lentPublic}
+use Rattle.circuit.specs.Circuit.{lentConstraints, lentPublic}
 use Rattle.circuit.specs.Buffers.{tStart}
 use Rattle.protocol.specs.Protocol.{prepared}
 use Rattle.quotients.specs.Lengths.{length-pointF}
@@ -87,7 +87,7 @@ returns c =
     rest-put (c .before .before .before .before .before .before .before .before .before .before .t-start .result) T (t .last .1 .1 .1 .0)
     ∙ ap₂ (λ (k l : List ℕ). k ++ l) front
     (t .ensures _
-    (length-pointF (a .p) (a .n) (prepared (a .p) (a .n) (lentCircuit (a .n) (a .selectors .now) (a .labels .now))) (lentPublic (a .publics .now)) (take (tStart (a .n)) T)
+    (length-pointF (a .p) (a .n) (prepared (a .p) (a .n) (lentConstraints (a .n) (a .selectors .now) (a .labels .now))) (lentPublic (a .publics .now)) (take (tStart (a .n)) T)
     (getD d 0 0)
     (getD d 1 0)
     (getD d 2 0)

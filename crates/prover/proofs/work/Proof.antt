@@ -16,7 +16,8 @@ lay-t-requires c κs =
     let f = c .before .before .before .before .before .before .lay-front in (
       record {
         admissible = s .pre .ready .admissible;
-        circuit-right = s .pre .ready .circuit-right;
+        elements = s .pre .ready .elements;
+        labelled = s .pre .ready .labelled;
         publics-below = s .pre .ready .publics-below;
         challenges-long = s .pre .ready .challenges-long;
         scratch-long = f .kept .1 .1 .1 .1 .1 .1 .0 ∙ s .pre .ready .scratch-long;

@@ -7,7 +7,7 @@ use borrow.Author.Needs.{needs}
 use Rattle.algebra.specs.Lists.{All}
 use Rattle.field.specs.Reasons.{Reason}
 use Rattle.field.specs.ReasonLaws.{refused-first, refused-later}
-use Rattle.circuit.specs.Circuit.{lentCircuit, lentPublic, lentWitness}
+use Rattle.circuit.specs.Circuit.{lentConstraints, lentPublic, lentWitness}
 use Rattle.circuit.specs.Reasons.{proveBufferReasons}
 use Rattle.protocol.specs.Protocol.{witnessReasons}
 use Rattle.witnesses.specs.Accepted.{buffer-numbers}
@@ -21,7 +21,7 @@ first s = proveBufferReasons (s .args .p) (s .args .n) (s .args .l) (s .args .se
 
 abbrev second : tie.Start → List Reason
 second s =
-    witnessReasons (s .args .p) (s .args .n) (lentCircuit (s .args .n) (s .args .selectors .now) (s .args .labels .now)) (lentPublic (s .args .publics .now)) (lentWitness (s .args .n) (s .args .witness .now)) (getD (s .args .challenges .now) 0 0) (getD (s .args .challenges .now) 1 0)
+    witnessReasons (s .args .p) (s .args .n) (lentConstraints (s .args .n) (s .args .selectors .now) (s .args .labels .now)) (lentPublic (s .args .publics .now)) (lentWitness (s .args .n) (s .args .witness .now)) (getD (s .args .challenges .now) 0 0) (getD (s .args .challenges .now) 1 0)
 
 -- no reason of the first has number 0
 first-right : (s : tie.Start) → All (λ r. r .number ≢ 0) (first s)

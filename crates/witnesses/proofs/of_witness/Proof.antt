@@ -9,14 +9,14 @@ use Rattle.field.specs.declared.Answer.{Answer}
 use Rattle.field.specs.Primes.{rows-power, field-prime}
 use Rattle.field.specs.Reasons.{Reason, answerOf, reasonAt}
 use Rattle.field.specs.ReasonLaws.{refused-first, refused-later}
-use Rattle.circuit.specs.Circuit.{Circuit, lentCircuit, lentPublic, lentWitness}
+use Rattle.circuit.specs.Circuit.{Constraints, lentConstraints, lentPublic, lentWitness}
 use Rattle.protocol.specs.Protocol.{brokenGate, brokenCopy, zeroFactor}
 use Rattle.witnesses.proofs.of_witness.Statement.{statement}
 use Rattle.witnesses.proofs.of_witness.Tie as tie
 
 -- the three reasons
-abbrev circuit : tie.Start → Circuit
-circuit s = lentCircuit (s .args .n) (s .args .selectors .now) (s .args .labels .now)
+abbrev circuit : tie.Start → Constraints
+circuit s = lentConstraints (s .args .n) (s .args .selectors .now) (s .args .labels .now)
 
 abbrev gates : tie.Start → Reason
 gates s = reasonAt 9 (brokenGate (s .args .p) (s .args .n) (circuit s) (lentPublic (s .args .publics .now)) (lentWitness (s .args .n) (s .args .witness .now))) (s .args .n)

@@ -7,7 +7,7 @@ use lib.ListN.{length, take, drop}
 use lib.Seq.{length-take-le}
 use borrow.Author.Needs.{needs}
 use Rattle.algebra.specs.Ends.{front-fits, front-is}
-use Rattle.circuit.specs.Circuit.{lentCircuit}
+use Rattle.circuit.specs.Circuit.{lentConstraints}
 use Rattle.protocol.specs.Protocol.{prepared}
 use Rattle.pointcheck.specs.Promises.{judgedAt}
 use Rattle.archive.specs.Work.{Judgeable, judgeable-of}
@@ -22,16 +22,16 @@ fits : (c : tie.After-blank-2048) → c .before .prepared-length .result ≤ len
 fits c = omega (arith, c .blank-2048 .ensures, c .before .prepared-length .ensures, start (c .before) .pre .few)
 
 abbrev after : tie.After-prepare → List ℕ
-after c = c .prepare .last .1 .1 .1 .1 .0 ++ drop (c .before .before .before .prepared-length .result) (c .before .before .blank-2048 .result)
+after c = c .prepare .last .1 .1 .1 .1 .1 .0 ++ drop (c .before .before .before .prepared-length .result) (c .before .before .blank-2048 .result)
 
 still-fits : (c : tie.After-prepare) → c .before .before .before .prepared-length .result ≤ length (after c)
-still-fits c = front-fits (c .before .before .before .prepared-length .result) (c .before .before .blank-2048 .result) (c .prepare .last .1 .1 .1 .1 .0) (fits (c .before .before)) (c .prepare .kept .1 .1 .1 .1 .0)
+still-fits c = front-fits (c .before .before .before .prepared-length .result) (c .before .before .blank-2048 .result) (c .prepare .last .1 .1 .1 .1 .1 .0) (fits (c .before .before)) (c .prepare .kept .1 .1 .1 .1 .1 .0)
 
 -- what is written is the prepared circuit
 written : (c : tie.After-prepare)
     → take (c .before .before .before .prepared-length .result) (after c)
-    ≡ prepared (start (c .before .before .before) .args .p) (start (c .before .before .before) .args .n) (lentCircuit (start (c .before .before .before) .args .n) (start (c .before .before .before) .args .selectors .now) (start (c .before .before .before) .args .labels .now))
-written c = front-is (c .before .before .before .prepared-length .result) (c .before .before .blank-2048 .result) (c .prepare .last .1 .1 .1 .1 .0) (fits (c .before .before)) (c .prepare .kept .1 .1 .1 .1 .0) ∙ c .prepare .ensures
+    ≡ prepared (start (c .before .before .before) .args .p) (start (c .before .before .before) .args .n) (lentConstraints (start (c .before .before .before) .args .n) (start (c .before .before .before) .args .selectors .now) (start (c .before .before .before) .args .labels .now))
+written c = front-is (c .before .before .before .prepared-length .result) (c .before .before .blank-2048 .result) (c .prepare .last .1 .1 .1 .1 .1 .0) (fits (c .before .before)) (c .prepare .kept .1 .1 .1 .1 .1 .0) ∙ c .prepare .ensures
 
 prepared-length-requires : tie.Need-prepared-length-requires
 prepared-length-requires c κs = search needs

@@ -7,22 +7,16 @@ use Rattle.prover_circuits.proofs.generate.fill_constants.Statement.{st
 use Rattle.prover_circuits.proofs.generate.fill_constants.Tie as tie
 
 abbrev Inv-loop : tie.InvT-loop
-Inv-loop p n selectors₀ witness publics row₀ selectors row = (row ≤ n) × (length selectors ≡ length selectors₀)
+Inv-loop p n selectors₀ witness row₀ selectors row = (row ≤ n) × (length selectors ≡ length selectors₀)
 
 abbrev μ-loop : tie.MeasureT-loop
-μ-loop p n selectors₀ witness publics row₀ selectors row = n - row
+μ-loop p n selectors₀ witness row₀ selectors row = n - row
 
 loop-holds : tie.Need-loop-holds Inv-loop μ-loop
 loop-holds c = search needs
 
 wires-requires : tie.Need-wires-requires Inv-loop μ-loop
 wires-requires c κs = search needs
-
-cast-at : tie.Need-cast-at Inv-loop μ-loop
-cast-at c = search needs
-
-at-requires : tie.Need-at-requires Inv-loop μ-loop
-at-requires c κs = search needs
 
 mul-place : tie.Need-mul-place Inv-loop μ-loop
 mul-place c = search needs
@@ -62,8 +56,6 @@ fill-constants-spec =
     μ-loop
     loop-holds
     wires-requires
-    cast-at
-    at-requires
     mul-place
     cast-place
     add-place

@@ -10,7 +10,8 @@ use Rattle.field.specs.Primes.{rows-power}
 use Rattle.field.specs.Reasons.{Reason, answerOf, reasonAt, firstAbove}
 use Rattle.field.specs.ReasonLaws.{further}
 use Rattle.circuit.specs.Buffers.{selectorsLength, labelsLength, witnessLength}
-use Rattle.circuit.specs.Reasons.{rowsDue, numberReasons, badLabel}
+use Rattle.circuit.specs.Circuit.{lentConstraints}
+use Rattle.circuit.specs.Reasons.{rowsDue, numberReasons, badLabel, badPublicRow}
 use Rattle.rowcheck.proofs.reasons.decide.Statement.{statement}
 use Rattle.rowcheck.proofs.reasons.decide.Tie as tie
 
@@ -27,7 +28,7 @@ abbrev five : tie.Start → List ℕ
 five s = s .args .selectors .now ++ (s .args .witness .now ++ (s .args .publics .now ++ (s .args .z .now ++ s .args .challenges .now)))
 
 abbrev rest : tie.Start → List Reason
-rest s = numberReasons (s .args .p) (s .args .n) (five s) (s .args .labels .now)
+rest s = numberReasons (s .args .p) (s .args .n) (s .args .l) (five s) (s .args .selectors .now) (s .args .labels .now)
 
 abbrev start : tie.After-decide-lent → tie.Start
 start c = c .before .before .before .before .before .before .before .before .before .before
@@ -39,7 +40,7 @@ long-four s = simp length-append (omega arith)
 long-five : (s : tie.Start) → length (four s) + length (s .args .challenges .now) ≡ length (five s)
 long-five s = simp length-append (omega arith)
 
-few : (c : tie.Else1) → (start (c .before) .args .n ≤ 1024) × (length (four (start (c .before))) + length (start (c .before) .args .challenges .now) ≤ 65536) × (length (start (c .before) .args .labels .now) ≤ 65536)
+few : (c : tie.Else1) → (start (c .before) .args .n ≤ 1024) × (start (c .before) .args .l ≤ start (c .before) .args .n) × (length (four (start (c .before))) + length (start (c .before) .args .challenges .now) ≤ 65536) × (length (start (c .before) .args .selectors .now) ≡ selectorsLength (start (c .before) .args .n)) × (length (start (c .before) .args .labels .now) ≤ 65536)
 few c =
     let s = start (c .before) in
     let lent = lent-known (s .args .p) (s .args .n) (s .args .l) (long s) (rowsDue (s .args .n) (s .args .l)) (rest s) (c .before .before .before .before .rows .ensures) (c .before .decide-lent .ensures) (c .if1 .left) refl in
@@ -51,7 +52,7 @@ few c =
     let e : length (s .args .publics .now) ≡ s .args .l = cc (lent .lengths) in
     let f : length (s .args .z .now) ≡ s .args .n = cc (lent .lengths) in
     let g : length (s .args .challenges .now) ≡ 2 = cc (lent .lengths) in
-    (small, omega (arith, long-four s), omega arith)
+    (small, least, omega (arith, long-four s), a, omega arith)
 
 rows-requires : tie.Need-rows-requires
 rows-requires c κs = search needs
@@ -71,7 +72,7 @@ returns c =
     lent-refused (s .args .p) (s .args .n) (s .args .l) (long s) (rowsDue (s .args .n) (s .args .l)) (rest s) (c .before .before .before .before .rows .ensures) (c .before .decide-lent .ensures) (c .if1 .taken)
 
 first-of-four-requires : tie.Need-first-of-four-requires
-first-of-four-requires c κs = omega (arith, few c .1, long-four (start (c .before)))
+first-of-four-requires c κs = omega (arith, few c .2, long-four (start (c .before)))
 
 add-four : tie.Need-add-four
 add-four c = search needs
@@ -83,7 +84,7 @@ add-four-3 : tie.Need-add-four-3
 add-four-3 c = search needs
 
 then-above-requires : tie.Need-then-above-requires
-then-above-requires c κs = omega (arith, few (c .before) .1, long-four (start (c .before .before)))
+then-above-requires c κs = omega (arith, few (c .before) .2, long-four (start (c .before .before)))
 
 add-decide-numbers : tie.Need-add-decide-numbers
 add-decide-numbers c = search needs
@@ -91,7 +92,7 @@ add-decide-numbers c = search needs
 decide-numbers-requires : tie.Need-decide-numbers-requires
 decide-numbers-requires c κs =
     let known = few (c .before .before) in
-    (known .0, omega (arith, known .1, long-four (start (c .before .before .before))), known .2)
+    ((known .0, known .1, omega (arith, known .2, long-four (start (c .before .before .before)))), (known .3, known .4))
 
 returns-2 : tie.Need-returns-2
 returns-2 c =
@@ -102,7 +103,7 @@ returns-2 c =
     ∙ ap (firstAbove (s .args .p)) (simp append-assoc) in
     lent-later (s .args .p) (s .args .n) (s .args .l) (long s) (rowsDue (s .args .n) (s .args .l)) (rest s) (d .before .before .before .rows .ensures) (d .decide-lent .ensures) (c .before .before .before .if1 .left)
     (c .decide-numbers .ensures
-    ∙ ap₂ (λ (at count : ℕ). answerOf (reasonAt 7 at count ∷ badLabel (s .args .n) (s .args .labels .now) ∷ [])) place (ap (λ (k : ℕ). k + length (s .args .challenges .now)) (long-four s) ∙ long-five s))
+    ∙ ap₂ (λ (at count : ℕ). answerOf (reasonAt 7 at count ∷ badLabel (s .args .n) (s .args .labels .now) ∷ badPublicRow (lentConstraints (s .args .n) (s .args .selectors .now) (s .args .labels .now)) (s .args .l) ∷ [])) place (ap (λ (k : ℕ). k + length (s .args .challenges .now)) (long-four s) ∙ long-five s))
 
 pub decide-spec : {M : Type 1} → statement M
 decide-spec =

@@ -1,18 +1,14 @@
--- `sheet::numbers::decide_numbers` meets its contract: the reason of the elements, then that of the labels. Assumes nothing.
-use mathlib.Core.Path.{_≡_, sym, ap, ap₂, _∙_}
+-- `sheet::numbers::decide_numbers` meets its contract: the reason of the elements, then those of the circuit. Assumes nothing.
+use mathlib.Core.Path.{_≡_, ap₂, _∙_}
 use mathlib.Core.List.{List, [], _∷_}
-use Prim.Native.Nat.{ℕ, _+_, _*_}
+use Prim.Native.Nat.{ℕ, _+_}
 use native.Mathlib.Omega.{arith}
 use lib.ListN.{length}
-use Rattle.algebra.specs.Lists.{tab}
-use Rattle.algebra.specs.Tables.{length-tab}
-use Rattle.field.specs.Reasons.{Reason, answerOf, reasonAt, firstAbove, badElement}
+use Rattle.field.specs.Reasons.{Reason, answerOf, reasonAt, badElement}
 use Rattle.field.specs.ReasonLaws.{refused-first, refused-later}
-use Rattle.circuit.specs.Buffers.{labelsLength}
-use Rattle.circuit.specs.Reasons.{badLabel}
-use Rattle.sheet.specs.Table.{labelsIn, tableElements}
+use Rattle.sheet.specs.Table.{tableElements}
+use Rattle.sheet.specs.Deciding.{tableCircuit}
 use borrow.Author.Needs.{needs}
-use Rattle.sheet.proofs.BlockLaws.{labels-fit}
 use Rattle.sheet.proofs.TableLaws.{elements-long}
 use Rattle.sheet.proofs.numbers.decide_numbers.Statement.{statement}
 use Rattle.sheet.proofs.numbers.decide_numbers.Tie as tie
@@ -22,7 +18,7 @@ abbrev first : tie.Start → List Reason
 first s = badElement (s .args .p) (tableElements (s .args .n) (s .args .l) (s .args .table .now)) ∷ []
 
 abbrev second : tie.Start → List Reason
-second s = badLabel (s .args .n) (tab (labelsIn (s .args .table .now) (s .args .n)) (labelsLength (s .args .n))) ∷ []
+second s = tableCircuit (s .args .n) (s .args .l) (s .args .table .now)
 
 decided : (c : tie.After-decide-at) → c .decide-at .result ≡ answerOf (first (c .before .before .before .before .before))
 decided c =
@@ -59,30 +55,13 @@ returns c =
     let s = c .before .before .before .before .before .before in
     refused-first (first s) (second s) (omega arith, tt) _ (decided (c .before)) (c .if1 .taken)
 
-labels-length-requires : tie.Need-labels-length-requires
-labels-length-requires c κs = search needs
-
-cast-above : tie.Need-cast-above
-cast-above c = search needs
-
-mul-above : tie.Need-mul-above
-mul-above c = search needs
-
-above-requires : tie.Need-above-requires
-above-requires c κs = labels-fit _ _ _ (c .before .before .before .before .before .before .before .pre) (c .labels-length .ensures)
-
-decide-at-requires-2 : tie.Need-decide-at-requires-2
-decide-at-requires-2 c κs = search needs
+decide-circuit-requires : tie.Need-decide-circuit-requires
+decide-circuit-requires c κs = search needs
 
 returns-2 : tie.Need-returns-2
 returns-2 c =
-    let s = c .before .before .before .before .before .before .before .before .before in
-    let t = s .args .table .now in
-    let n = s .args .n in
-    let long = c .before .before .labels-length .ensures in
-    let at = c .before .above .ensures ∙ ap (λ (m : ℕ). firstAbove (3 * n) (tab (labelsIn t n) m)) long in
-    refused-later (first s) (second s) (omega arith, tt) _ _ (decided (c .before .before .before .before)) (c .before .before .before .if1 .left)
-    (c .decide-at2 .ensures ∙ ap₂ (λ (at count : ℕ). answerOf (reasonAt 8 at count ∷ [])) at (long ∙ sym (length-tab (labelsIn t n) (labelsLength n))))
+    let s = c .before .before .before .before .before .before .before in
+    refused-later (first s) (second s) (omega arith, tt) _ _ (decided (c .before .before)) (c .before .if1 .left) (c .decide-circuit .ensures)
 
 pub decide-numbers-spec : {M : Type 1} → statement M
 decide-numbers-spec =
@@ -96,9 +75,5 @@ decide-numbers-spec =
     add-count-3
     decide-at-requires
     returns
-    labels-length-requires
-    cast-above
-    mul-above
-    above-requires
-    decide-at-requires-2
+    decide-circuit-requires
     returns-2)

@@ -9,7 +9,8 @@ use Rattle.field.specs.Lent.{lent-refused, lent-later, lent-known}
 use Rattle.field.specs.Primes.{rows-power}
 use Rattle.field.specs.Reasons.{Reason, answerOf, reasonAt}
 use Rattle.circuit.specs.Buffers.{selectorsLength, labelsLength, witnessLength}
-use Rattle.circuit.specs.Reasons.{proveDue, numberReasons, badLabel}
+use Rattle.circuit.specs.Circuit.{lentConstraints}
+use Rattle.circuit.specs.Reasons.{proveDue, numberReasons, badLabel, badPublicRow}
 use Rattle.witnesses.proofs.reasons.of_buffers.Statement.{statement}
 use Rattle.witnesses.proofs.reasons.of_buffers.Tie as tie
 
@@ -22,7 +23,7 @@ abbrev elements : tie.Start → List ℕ
 elements s = s .args .selectors .now ++ (s .args .witness .now ++ (s .args .publics .now ++ s .args .challenges .now))
 
 abbrev rest : tie.Start → List Reason
-rest s = numberReasons (s .args .p) (s .args .n) (elements s) (s .args .labels .now)
+rest s = numberReasons (s .args .p) (s .args .n) (s .args .l) (elements s) (s .args .selectors .now) (s .args .labels .now)
 
 abbrev start : tie.After-decide-lent → tie.Start
 start c = c .before .before .before .before .before .before .before .before .before .before .before
@@ -31,7 +32,7 @@ start c = c .before .before .before .before .before .before .before .before .bef
 count : (s : tie.Start) → length (s .args .selectors .now) + length (s .args .witness .now) + length (s .args .publics .now) + length (s .args .challenges .now) ≡ length (elements s)
 count s = simp length-append (omega arith)
 
-few : (c : tie.Else1) → (start (c .before) .args .n ≤ 1024) × (length (elements (start (c .before))) ≤ 65536) × (length (start (c .before) .args .labels .now) ≤ 65536)
+few : (c : tie.Else1) → (start (c .before) .args .n ≤ 1024) × (start (c .before) .args .l ≤ start (c .before) .args .n) × (length (elements (start (c .before))) ≤ 65536) × (length (start (c .before) .args .selectors .now) ≡ selectorsLength (start (c .before) .args .n)) × (length (start (c .before) .args .labels .now) ≤ 65536)
 few c =
     let s = start (c .before) in
     let lent = lent-known (s .args .p) (s .args .n) (s .args .l) (long s) (proveDue (s .args .n) (s .args .l)) (rest s) (c .before .before .before .before .prove .ensures) (c .before .decide-lent .ensures) (c .if1 .left) refl in
@@ -42,7 +43,7 @@ few c =
     let d : length (s .args .witness .now) ≡ witnessLength (s .args .n) = cc (lent .lengths) in
     let e : length (s .args .publics .now) ≡ s .args .l = cc (lent .lengths) in
     let f : length (s .args .challenges .now) ≡ 3 = cc (lent .lengths) in
-    (small, omega (arith, count s), omega arith)
+    (small, least, omega (arith, count s), a, omega arith)
 
 prove-requires : tie.Need-prove-requires
 prove-requires c κs = search needs
@@ -62,7 +63,7 @@ returns c =
     lent-refused (s .args .p) (s .args .n) (s .args .l) (long s) (proveDue (s .args .n) (s .args .l)) (rest s) (c .before .before .before .before .prove .ensures) (c .before .decide-lent .ensures) (c .if1 .taken)
 
 first-of-four-requires : tie.Need-first-of-four-requires
-first-of-four-requires c κs = omega (arith, few c .1, count (start (c .before)))
+first-of-four-requires c κs = omega (arith, few c .2, count (start (c .before)))
 
 add-count : tie.Need-add-count
 add-count c = search needs
@@ -76,7 +77,7 @@ add-count-3 c = search needs
 decide-numbers-requires : tie.Need-decide-numbers-requires
 decide-numbers-requires c κs =
     let known = few (c .before) in
-    (known .0, omega (arith, known .1, count (start (c .before .before))), known .2)
+    ((known .0, known .1, omega (arith, known .2, count (start (c .before .before)))), (known .3, known .4))
 
 returns-2 : tie.Need-returns-2
 returns-2 c =
@@ -84,7 +85,7 @@ returns-2 c =
     let s = start d in
     lent-later (s .args .p) (s .args .n) (s .args .l) (long s) (proveDue (s .args .n) (s .args .l)) (rest s) (d .before .before .before .prove .ensures) (d .decide-lent .ensures) (c .before .before .if1 .left)
     (c .decide-numbers .ensures
-    ∙ ap₂ (λ (at count : ℕ). answerOf (reasonAt 7 at count ∷ badLabel (s .args .n) (s .args .labels .now) ∷ [])) (c .before .first-of-four .ensures) (count s))
+    ∙ ap₂ (λ (at count : ℕ). answerOf (reasonAt 7 at count ∷ badLabel (s .args .n) (s .args .labels .now) ∷ badPublicRow (lentConstraints (s .args .n) (s .args .selectors .now) (s .args .labels .now)) (s .args .l) ∷ [])) (c .before .first-of-four .ensures) (count s))
 
 pub of-buffers-spec : {M : Type 1} → statement M
 of-buffers-spec =
