@@ -111,7 +111,7 @@ static void every_call(void)
     guppyspoon_permutation(P, N, LENT(labels), LENT(positions), LENT(answer));
     EXPECT("permutation", GUPPYSPOON_PERMUTATION_WORDS, GUPPYSPOON_ACCEPTED, 0);
     expect_that("position 1 leads to 3", positions[1] == 3);
-    guppyspoon_prepare(P, N, LENT(selectors), LENT(labels), LENT(prepared), LENT(scratch), LENT(answer));
+    guppyspoon_prepare(P, N, L, LENT(selectors), LENT(labels), LENT(prepared), LENT(scratch), LENT(answer));
     EXPECT("prepare", GUPPYSPOON_PREPARE_WORDS, GUPPYSPOON_ACCEPTED, 0);
     prove(witness, three);
     EXPECT("prove", GUPPYSPOON_PROVE_WORDS, GUPPYSPOON_ACCEPTED, 0);
@@ -180,6 +180,8 @@ static void every_reason(void)
     EXPECT("reason 12", GUPPYSPOON_OPEN_WORDS, GUPPYSPOON_BAD_LIST, 0);
     open((const uint32_t[]){12, 13}, 2);
     EXPECT("reason 13", GUPPYSPOON_OPEN_WORDS, GUPPYSPOON_BAD_NUMBER, 1);
+    guppyspoon_prepare(P, N, 1, LENT(selectors), LENT(labels), LENT(prepared), LENT(scratch), LENT(answer));
+    EXPECT("reason 14", GUPPYSPOON_PREPARE_WORDS, GUPPYSPOON_BAD_PUBLIC_ROW, 0);
 }
 
 /* So many rows of a prime are taken, and twice as many are not. Only labels are lent: all zeros. */

@@ -13,7 +13,8 @@
  * and each buffer has the length that is passed with it. A wrong length is no fault of this kind: it is refused (reason 6).
  *
  * p is a prime: 17, 97 or 2013265921. An element is a number below p. n is the number of rows, a power of two, from 2 to the greatest for its prime.
- * l is the number of public inputs, 0 to n. Selectors and witness stand column after column. A polynomial is its coefficients, lowest first.
+ * l is the number of public inputs, 0 to n. A row below l must be a public row: its qL is 1 and its other selectors are 0, so that its gate says that
+ * a is the public input. Selectors and witness stand column after column. A polynomial is its coefficients, lowest first.
  * "Buffers" below are in the order in which reason 6 counts them, from 1; `answer` is not counted. Those marked "written" may hold anything
  * before the call. `scratch` is the call's working area and holds zeros after an accepted call.
  */
@@ -107,7 +108,8 @@ enum guppyspoon_reason {
     GUPPYSPOON_COPY_FAILS = 10,       /* a witness value differs from that of a lower position with its label; detail: the lowest such position */
     GUPPYSPOON_ZERO_DENOMINATOR = 11, /* a factor of a denominator of z is 0; detail: the lowest row */
     GUPPYSPOON_BAD_LIST = 12,         /* a list of polynomials is empty or longer than 13 */
-    GUPPYSPOON_BAD_NUMBER = 13        /* the number of a polynomial is above 12; detail: the first such place in the list, from 0 */
+    GUPPYSPOON_BAD_NUMBER = 13,       /* the number of a polynomial is above 12; detail: the first such place in the list, from 0 */
+    GUPPYSPOON_BAD_PUBLIC_ROW = 14    /* a row below l is no public row; detail: the lowest such row */
 };
 
 /* Word 2 of the answer of guppyspoon_check_rows. */
@@ -164,16 +166,17 @@ void guppyspoon_permutation(uint32_t p, uint32_t n, const uint32_t *labels, size
 /* The prepared circuit: eight polynomials of n coefficients, end to end.
  *
  * Buffers: 1 selectors, 5n; 2 labels, 3n; 3 written, 8n, written; 4 scratch, 16n, written.
- * Reasons: 2, 3, 6, 7 (selectors), 8.
+ * Reasons: 2, 3, 4, 6, 7 (selectors), 8, 14.
  * Answer: number, detail.
  */
-void guppyspoon_prepare(uint32_t p, uint32_t n, const uint32_t *selectors, size_t selectors_length, const uint32_t *labels, size_t labels_length,
-                        uint32_t *written, size_t written_length, uint32_t *scratch, size_t scratch_length, uint32_t *answer, size_t answer_length);
+void guppyspoon_prepare(uint32_t p, uint32_t n, uint32_t l, const uint32_t *selectors, size_t selectors_length, const uint32_t *labels,
+                        size_t labels_length, uint32_t *written, size_t written_length, uint32_t *scratch, size_t scratch_length, uint32_t *answer,
+                        size_t answer_length);
 
 /* The row check: rows upward, in each the gate, then z = 1 (row 0 only), then the step to the next row.
  *
  * Buffers: 1 selectors, 5n; 2 labels, 3n; 3 witness, 3n; 4 publics, l; 5 z (its values at the rows), n; 6 challenges (beta, gamma), 2.
- * Reasons: 2, 3, 4, 6, 7 (selectors, witness, publics, z, challenges end to end), 8.
+ * Reasons: 2, 3, 4, 6, 7 (selectors, witness, publics, z, challenges end to end), 8, 14.
  * Answer: number, detail, the verdict (enum guppyspoon_row_verdict), the row that fails first (0 where none does).
  */
 void guppyspoon_check_rows(uint32_t p, uint32_t n, uint32_t l, const uint32_t *selectors, size_t selectors_length, const uint32_t *labels,
@@ -222,7 +225,7 @@ void guppyspoon_check_opening(uint32_t p, uint32_t n, const uint32_t *prepared, 
  *
  * Buffers: 1 selectors, 5n; 2 labels, 3n; 3 witness, 3n; 4 publics, l; 5 transcript, 7n - 3, written; 6 challenges (beta, gamma, alpha), 3;
  *   7 scratch, 16n, written.
- * Reasons: 2, 3, 4, 6, 7 (selectors, witness, publics, challenges end to end), 8, 9, 10, 11.
+ * Reasons: 2, 3, 4, 6, 7 (selectors, witness, publics, challenges end to end), 8, 14, 9, 10, 11.
  * Answer: number, detail.
  */
 void guppyspoon_prove(uint32_t p, uint32_t n, uint32_t l, const uint32_t *selectors, size_t selectors_length, const uint32_t *labels,
@@ -234,7 +237,7 @@ void guppyspoon_prove(uint32_t p, uint32_t n, uint32_t l, const uint32_t *select
  *
  * Buffers: 1 sheet, any number of bytes (above 65,536 gives reason 1); 2 selectors, 1280, written; 3 labels, 768, written;
  *   4 witness, 768, written; 5 publics, 256, written; 6 challenges (beta, gamma, alpha, zeta), 4, written.
- * Reasons: 1, 2, 3, 4, 5, 6, 7 (selectors, witness, publics, challenges end to end, as they are lent for the sheet's n and l), 8.
+ * Reasons: 1, 2, 3, 4, 5, 6, 7 (selectors, witness, publics, challenges end to end, as they are lent for the sheet's n and l), 8, 14.
  * Answer: number, detail, p, n, l (all three 0 if refused).
  */
 void guppyspoon_read(const uint8_t *sheet, size_t sheet_length, uint32_t *selectors, size_t selectors_length, uint32_t *labels,

@@ -15,7 +15,7 @@ extern "C" {
         answer_length: usize,
     );
     fn guppyspoon_prepare(
-        p: u32, n: u32, selectors: *const u32, selectors_length: usize, labels: *const u32, labels_length: usize, written: *mut u32,
+        p: u32, n: u32, l: u32, selectors: *const u32, selectors_length: usize, labels: *const u32, labels_length: usize, written: *mut u32,
         written_length: usize, scratch: *mut u32, scratch_length: usize, answer: *mut u32, answer_length: usize,
     );
     fn guppyspoon_check_rows(
@@ -126,11 +126,12 @@ pub fn permutation(p: u32, n: u32, labels: &[u32], positions: &mut [u32], answer
     }
 }
 
-pub fn prepare(p: u32, n: u32, selectors: &[u32], labels: &[u32], written: &mut [u32], scratch: &mut [u32], answer: &mut [u32]) {
+pub fn prepare(p: u32, n: u32, l: u32, selectors: &[u32], labels: &[u32], written: &mut [u32], scratch: &mut [u32], answer: &mut [u32]) {
     unsafe {
         guppyspoon_prepare(
             p,
             n,
+            l,
             selectors.as_ptr(),
             selectors.len(),
             labels.as_ptr(),

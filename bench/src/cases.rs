@@ -39,10 +39,16 @@ fn labels(r: &mut Random, n: usize) -> Vec<u32> {
 }
 
 impl Circuit {
-    // The constants that make every gate hold.
+    // The rows below l as public rows, with the contents of a as public numbers, and the constants that make every other gate hold.
     pub fn mend_gates(&mut self) {
-        let (p, n) = (self.p, self.n as usize);
-        for i in 0..n {
+        let (p, n, l) = (self.p, self.n as usize, self.l as usize);
+        for i in 0..l {
+            for s in 0..5 {
+                self.selectors[s * n + i] = (s == 0) as u32;
+            }
+        }
+        self.publics.copy_from_slice(&self.contents[..l]);
+        for i in l..n {
             let off = rows::gate(p, n, &self.selectors, &self.contents, &self.publics, i);
             let q = self.selectors[4 * n + i];
             self.selectors[4 * n + i] = sub(p, q, off);
@@ -66,7 +72,7 @@ impl Circuit {
             selectors: r.elements(p, 5 * m),
             contents: labels.iter().map(|&v| values[v as usize]).collect(),
             labels,
-            publics: r.elements(p, l as usize),
+            publics: vec![0; l as usize],
             challenges: [r.element(p), r.element(p), r.element(p), r.element(p)],
         };
         if r.once_in(3) {
@@ -94,11 +100,12 @@ impl Circuit {
         }
     }
 
-    // A fault of the filling: a gate that fails, a content unlike its label's others, a zero denominator.
+    // A fault of the circuit or of its filling: a row below l that is no public row, a gate that fails, a content unlike its label's others, a zero
+    // denominator.
     pub fn damage(&mut self, r: &mut Random) {
-        let (p, n) = (self.p, self.n as usize);
+        let (p, n, l) = (self.p, self.n as usize, self.l as usize);
         let k = r.below(3 * n);
-        match r.below(4) {
+        match r.below(5) {
             0 => {
                 let q = r.below(5 * n);
                 self.selectors[q] = r.element(p);
@@ -107,6 +114,10 @@ impl Circuit {
             2 => {
                 self.contents[k] = r.element(p);
                 self.mend_gates();
+            }
+            3 if l > 0 => {
+                let any = r.element(p);
+                self.selectors[r.below(5) * n + r.below(l)] = r.pick(&[0, 1, 2, p - 1, any]);
             }
             _ => {
                 let own = rows::marks(p, &points(p, n));
@@ -127,7 +138,7 @@ impl Circuit {
     fn prepared(&self) -> Vec<u32> {
         let n = self.n as usize;
         let mut written = vec![0; 8 * n];
-        plain::prepare(self.p, self.n, &self.selectors, &self.labels, &mut written, &mut vec![0; 16 * n]);
+        plain::prepare(self.p, self.n, self.l, &self.selectors, &self.labels, &mut written, &mut vec![0; 16 * n]);
         written
     }
 

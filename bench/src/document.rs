@@ -3,6 +3,8 @@ use crate::kinds::{plainly, proved, Case, Kind};
 use crate::{calls, plain, sheets};
 
 pub const SHEET: &[u8] = b"17,2,0\n0,0,16,1,0,0,1,2\n1,1,16,0,0,2,2,3\n2,3,6\n6,6,12\n1,1,2,2\n";
+// The same with row 0 made a public row, and the content of its a as public number.
+const PUBLIC: &str = "17,2,1\n1,0,0,0,0,0,1,2\n1,1,16,0,0,2,2,3\n2,3,6\n6,6,12\n2\n1,1,2,2\n";
 const PRINTED: &str = "a,4,15\nb,13,7\nc,9,14\nz,16,2\nt,9,12,15\naccept\n";
 
 const SELECTORS: [u32; 10] = [0, 1, 0, 1, 16, 16, 1, 0, 0, 0];
@@ -104,6 +106,17 @@ fn deposits() -> usize {
     off
 }
 
+// The texts of the sheet with a public row, and with one selector of it wrong.
+fn public_rows() -> usize {
+    let sheet = std::str::from_utf8(SHEET).unwrap();
+    let mut off = deposit("row 0 public", sheet, PUBLIC, "a,4,15\nb,13,7\nc,9,14\nz,16,2\nt,4,2,15\naccept\n");
+    for wrong in ["0,0,0,0,0", "2,0,0,0,0", "1,1,0,0,0", "1,0,16,0,0", "1,0,0,1,0", "1,0,0,0,1"] {
+        off += deposit(wrong, sheet, &PUBLIC.replacen("1,0,0,0,0", wrong, 1), "refused,14,0\n");
+    }
+    off += deposit("public number 3", sheet, &PUBLIC.replacen("\n2\n", "\n3\n", 1), "refused,9,0\n");
+    off
+}
+
 pub fn run() -> usize {
     let untouched = [7; 11];
     let mut off = 0;
@@ -121,12 +134,13 @@ pub fn run() -> usize {
         }
     }
     let mut prepared = [7; 16];
-    plain::prepare(17, 2, &SELECTORS, &LABELS, &mut prepared, &mut [7; 32]);
+    plain::prepare(17, 2, 0, &SELECTORS, &LABELS, &mut prepared, &mut [7; 32]);
     off += expect("prepared", Kind::Prepare, 0, &[&SELECTORS, &LABELS, &[7; 16], &[7; 32]], &[0, 0], 2, &prepared);
     off += expect("accept", Kind::CheckPoint, 0, &[&[], &prepared, &TRANSCRIPT, &[1, 1, 2, 2], &[7; 32]], &[0, 0, 1], 4, &[0; 32]);
     off += opening("a, b, c, z and t at 2, m 3", &prepared, &[8, 9, 10, 11, 12], &[2, 3], &[0, 10, 3, 3, 8], &[14, 8]);
     off += opening("z twice at row 1's point, m 1", &prepared, &[11, 11], &[16, 1], &[14, 14], &[4, 0]);
     off += deposits();
+    off += public_rows();
     println!("the sheet of document 01: {off} differences");
     off
 }

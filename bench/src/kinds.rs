@@ -55,7 +55,7 @@ impl Kind {
 
     // Whether the call is lent l.
     pub fn has_l(self) -> bool {
-        matches!(self, Kind::CheckRows | Kind::CheckPoint | Kind::Prove)
+        matches!(self, Kind::Prepare | Kind::CheckRows | Kind::CheckPoint | Kind::Prove)
     }
 
     // Whether the call is lent a list of polynomials.
@@ -87,7 +87,7 @@ pub fn plainly(case: &Case, buffers: &mut [&mut [u32]]) -> Vec<u32> {
         (Kind::Evaluate, [input, result, scratch]) => plain::evaluate(p, n, input, result, scratch).to_vec(),
         (Kind::Interpolate, [input, result, scratch]) => plain::interpolate(p, n, input, result, scratch).to_vec(),
         (Kind::Permutation, [labels, positions]) => plain::permutation(p, n, labels, positions).to_vec(),
-        (Kind::Prepare, [selectors, labels, written, scratch]) => plain::prepare(p, n, selectors, labels, written, scratch).to_vec(),
+        (Kind::Prepare, [selectors, labels, written, scratch]) => plain::prepare(p, n, l, selectors, labels, written, scratch).to_vec(),
         (Kind::CheckRows, [selectors, labels, contents, publics, z, challenges]) => {
             plain::check_rows(p, n, l, selectors, labels, contents, publics, z, challenges).to_vec()
         }
@@ -115,7 +115,7 @@ pub fn proved(case: &Case, buffers: &mut [&mut [u32]], answer: &mut [u32]) {
         (Kind::Evaluate, [input, result, scratch]) => calls::evaluate(p, n, input, result, scratch, answer),
         (Kind::Interpolate, [input, result, scratch]) => calls::interpolate(p, n, input, result, scratch, answer),
         (Kind::Permutation, [labels, positions]) => calls::permutation(p, n, labels, positions, answer),
-        (Kind::Prepare, [selectors, labels, written, scratch]) => calls::prepare(p, n, selectors, labels, written, scratch, answer),
+        (Kind::Prepare, [selectors, labels, written, scratch]) => calls::prepare(p, n, l, selectors, labels, written, scratch, answer),
         (Kind::CheckRows, [selectors, labels, contents, publics, z, challenges]) => {
             calls::check_rows(p, n, l, selectors, labels, contents, publics, z, challenges, answer)
         }

@@ -1,6 +1,6 @@
 // The sheet of document 01: reading one, and the text of a deposit, written plainly from the document.
 use crate::cases::Circuit;
-use crate::plain::{self, admitted, elements, few, labelled, lengths, Refusal};
+use crate::plain::{self, admitted, bound, elements, few, labelled, lengths, Refusal};
 use std::fmt::Write;
 
 pub const LONGEST: usize = 65536;
@@ -69,13 +69,14 @@ fn parse(sheet: &[u8]) -> Result<Circuit, Refusal> {
     }
 }
 
-// 1 to 8, the buffers in their order.
+// 1 to 8 and 14, the buffers in their order.
 fn decide(sheet: &[u8], lent: &[&mut [u32]; 5]) -> Result<Circuit, Refusal> {
     let s = parse(sheet)?;
     let due = [0, 1, 2, 3, 4].map(|k| (&*lent[k], LENGTHS[k]));
     lengths(&due).map_err(|[number, place]| [number, place + 1])?; // the sheet is the first buffer
     elements(s.p, &[&s.selectors, &s.contents, &s.publics, &s.challenges])?;
     labelled(&s.labels)?;
+    bound(s.n as usize, s.l, &s.selectors)?;
     Ok(s)
 }
 
@@ -119,7 +120,7 @@ fn print_work(s: &Circuit) -> Result<String, Refusal> {
     if made[0] != 0 {
         return Err(made);
     }
-    plain::prepare(s.p, s.n, &s.selectors, &s.labels, &mut prepared, scratch);
+    plain::prepare(s.p, s.n, s.l, &s.selectors, &s.labels, &mut prepared, scratch);
     let verdict = plain::check_point(s.p, s.n, s.l, &s.publics, &prepared, &transcript, &s.challenges, scratch);
     let mut out = String::new();
     for (k, letter) in ["a", "b", "c", "z"].into_iter().enumerate() {

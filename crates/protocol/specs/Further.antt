@@ -1,9 +1,10 @@
 -- Further cases of the definitions, with values that a program not kept here found: sheets over each of the three primes, all with public inputs, so
--- that a wrong sign of the public input shows. Tags, N, D, z, prepared polynomials, transcripts, both verdicts, and where 9, 10 and 11 apply.
+-- that a wrong sign of the public input shows. Tags, N, D, z, prepared polynomials, transcripts, both verdicts, and where 14, 9, 10 and 11 apply.
 --
 -- Sheet, circuit, publics, witness     a sheet of document 01 as its numbers are lent, and what the definitions read in it
--- gates, transcriptOf, rowCheck, pointCheck, broken   the definitions at a sheet; broken: where 9, 10 and 11 apply (n, 3n, n: nowhere)
+-- gates, transcriptOf, rowCheck, pointCheck, broken   the definitions at a sheet; broken: where 14, 9, 10 and 11 apply (l, n, 3n, n: nowhere)
 -- seventeen, ninetySeven, largest      a valid sheet of four rows for each prime
+-- unbound                              a sheet of prime 97 that is refused by 14
 -- brokenRow, brokenPosition, zeroRow   sheets of prime 17 that are refused by 9, 10 and 11
 -- largestPosition, largestZero         sheets of the largest prime that are refused by 10 and 11
 -- table                                the cases of 17 and 97, which antt computes as they stand
@@ -16,7 +17,7 @@ use mathlib.Core.Path.{_≡_, refl, sym}
 use mathlib.Core.List.{List, [], _∷_, _++_}
 use Prim.Native.Nat.{ℕ, _*_, _%_, _<_}
 use lib.Dec.{lit<}
-use lib.ListN.{getD}
+use lib.ListN.{length, getD}
 use Rattle.algebra.specs.Lists.{tab, All}
 use Rattle.algebra.specs.Modular.{powF, first, inverse}
 use Rattle.algebra.specs.Congruence.{cong, back, cong-mod, _⨾_}
@@ -27,6 +28,7 @@ use Rattle.field.specs.Fields.{generator, root, point, multiplier, tag}
 use Rattle.field.specs.Primes.{prime-2013265921}
 use Rattle.transform.specs.Transform.{interpolation}
 use Rattle.circuit.specs.Circuit.{Constraints, lentConstraints, lentWitness, lentPublic, permutation, gate}
+use Rattle.circuit.specs.Reasons.{unboundRow}
 use Rattle.protocol.specs.Protocol.{rowN, rowD, rowZ, polyN, polyD, polyL, gatePart, stepPart, startPart, polyF, quotient, prepared, wiresOf, zOf, proved, RowVerdict, pass, fails, gateIdentity, startIdentity, stepIdentity, rowsFrom, rowAt, rowVerdict, PointVerdict, accept, reject, pointF, pointVerdict, brokenGate, brokenCopy, zeroFactor}
 use Rattle.protocol.specs.Worked.{numbers, rows, atPoint, Case, _&_}
 
@@ -66,127 +68,143 @@ pointCheck s pre lent zeta = pointVerdict (s .p) (s .n) pre (publics s) lent (s 
 
 abbrev broken : Sheet → List ℕ
 broken s =
-    brokenGate (s .p) (s .n) (circuit s) (publics s) (witness s)
+    unboundRow (circuit s) (length (s .given))
+    ∷ brokenGate (s .p) (s .n) (circuit s) (publics s) (witness s)
     ∷ brokenCopy (s .n) (circuit s) (witness s)
     ∷ zeroFactor (s .p) (s .n) (circuit s) (witness s) (s .beta) (s .gamma) ∷ []
 
--- THE SHEETS (the number is that of the sheet in crates/vectors/data)
+-- THE SHEETS (named as in crates/vectors/data)
 
--- 097
+-- seventeen
 abbrev seventeen : Sheet
 seventeen =
     record {
       p = 17;
       n = 4;
-      selectors = 0 ∷ 0 ∷ 2 ∷ 1 ∷ 0 ∷ 0 ∷ 11 ∷ 1 ∷ 0 ∷ 0 ∷ 1 ∷ 10 ∷ 0 ∷ 0 ∷ 7 ∷ 8 ∷ 10 ∷ 11 ∷ 11 ∷ 13 ∷ [];
+      selectors = 1 ∷ 1 ∷ 2 ∷ 1 ∷ 0 ∷ 0 ∷ 11 ∷ 1 ∷ 0 ∷ 0 ∷ 1 ∷ 10 ∷ 0 ∷ 0 ∷ 7 ∷ 8 ∷ 0 ∷ 0 ∷ 11 ∷ 13 ∷ [];
       labels = 8 ∷ 4 ∷ 8 ∷ 6 ∷ 8 ∷ 6 ∷ 7 ∷ 7 ∷ 3 ∷ 10 ∷ 3 ∷ 11 ∷ [];
       contents = 3 ∷ 11 ∷ 3 ∷ 14 ∷ 3 ∷ 14 ∷ 6 ∷ 6 ∷ 12 ∷ 5 ∷ 12 ∷ 6 ∷ [];
-      given = 10 ∷ 11 ∷ [];
+      given = 3 ∷ 11 ∷ [];
       beta = 15;
       gamma = 0;
       alpha = 4;
     }
 
--- 038
+-- ninetyseven
 abbrev ninetySeven : Sheet
 ninetySeven =
     record {
       p = 97;
       n = 4;
-      selectors = 31 ∷ 0 ∷ 0 ∷ 1 ∷ 32 ∷ 0 ∷ 0 ∷ 1 ∷ 13 ∷ 96 ∷ 96 ∷ 96 ∷ 58 ∷ 1 ∷ 1 ∷ 0 ∷ 71 ∷ 85 ∷ 27 ∷ 44 ∷ [];
+      selectors = 1 ∷ 0 ∷ 0 ∷ 1 ∷ 0 ∷ 0 ∷ 0 ∷ 1 ∷ 0 ∷ 96 ∷ 96 ∷ 96 ∷ 0 ∷ 1 ∷ 1 ∷ 0 ∷ 0 ∷ 85 ∷ 27 ∷ 44 ∷ [];
       labels = 11 ∷ 0 ∷ 0 ∷ 10 ∷ 9 ∷ 10 ∷ 7 ∷ 6 ∷ 4 ∷ 11 ∷ 0 ∷ 3 ∷ [];
       contents = 41 ∷ 64 ∷ 64 ∷ 66 ∷ 10 ∷ 66 ∷ 90 ∷ 50 ∷ 95 ∷ 41 ∷ 64 ∷ 63 ∷ [];
-      given = 2 ∷ [];
+      given = 41 ∷ [];
       beta = 1;
       gamma = 38;
       alpha = 76;
     }
 
--- 109
+-- largest
 abbrev largest : Sheet
 largest =
     record {
       p = 2013265921;
       n = 4;
-      selectors = 1 ∷ 1908632908 ∷ 0 ∷ 1 ∷ 1 ∷ 1913878387 ∷ 0 ∷ 1 ∷ 2013265920 ∷ 662950886 ∷ 0 ∷ 2013265920 ∷ 0 ∷ 1672529447 ∷ 0 ∷ 0 ∷ 1240728433 ∷ 1961175200 ∷ 798064023 ∷ 755699088 ∷ [];
+      selectors = 1 ∷ 1 ∷ 0 ∷ 1 ∷ 0 ∷ 0 ∷ 0 ∷ 1 ∷ 0 ∷ 0 ∷ 0 ∷ 2013265920 ∷ 0 ∷ 0 ∷ 0 ∷ 0 ∷ 0 ∷ 0 ∷ 0 ∷ 172552000 ∷ [];
       labels = 1 ∷ 10 ∷ 3 ∷ 6 ∷ 0 ∷ 10 ∷ 8 ∷ 10 ∷ 10 ∷ 2 ∷ 0 ∷ 4 ∷ [];
       contents = 1956909704 ∷ 1016968323 ∷ 1795440163 ∷ 1471242697 ∷ 1821105371 ∷ 1016968323 ∷ 1100620733 ∷ 1016968323 ∷ 1016968323 ∷ 1233393452 ∷ 1821105371 ∷ 647497099 ∷ [];
-      given = 1988509264 ∷ 844487921 ∷ 798064023 ∷ 583147088 ∷ [];
+      given = 1956909704 ∷ 1016968323 ∷ [];
       beta = 725436963;
       gamma = 516630279;
       alpha = 1;
     }
 
--- 080
+-- public044
+abbrev unbound : Sheet
+unbound =
+    record {
+      p = 97;
+      n = 4;
+      selectors = 1 ∷ 1 ∷ 1 ∷ 1 ∷ 0 ∷ 0 ∷ 0 ∷ 0 ∷ 0 ∷ 0 ∷ 0 ∷ 0 ∷ 0 ∷ 0 ∷ 0 ∷ 0 ∷ 0 ∷ 0 ∷ 34 ∷ 0 ∷ [];
+      labels = 1 ∷ 9 ∷ 11 ∷ 2 ∷ 8 ∷ 7 ∷ 4 ∷ 5 ∷ 3 ∷ 6 ∷ 10 ∷ 0 ∷ [];
+      contents = 64 ∷ 65 ∷ 14 ∷ 33 ∷ 5 ∷ 15 ∷ 96 ∷ 78 ∷ 57 ∷ 94 ∷ 44 ∷ 43 ∷ [];
+      given = 64 ∷ 65 ∷ 14 ∷ 33 ∷ [];
+      beta = 34;
+      gamma = 88;
+      alpha = 1;
+    }
+
+-- brokenrow
 abbrev brokenRow : Sheet
 brokenRow =
     record {
       p = 17;
       n = 4;
-      selectors = 1 ∷ 6 ∷ 3 ∷ 1 ∷ 1 ∷ 2 ∷ 8 ∷ 1 ∷ 16 ∷ 10 ∷ 11 ∷ 16 ∷ 0 ∷ 8 ∷ 2 ∷ 0 ∷ 8 ∷ 11 ∷ 7 ∷ 0 ∷ [];
+      selectors = 1 ∷ 1 ∷ 3 ∷ 1 ∷ 0 ∷ 0 ∷ 8 ∷ 1 ∷ 0 ∷ 0 ∷ 11 ∷ 16 ∷ 0 ∷ 0 ∷ 2 ∷ 0 ∷ 0 ∷ 0 ∷ 11 ∷ 4 ∷ [];
       labels = 0 ∷ 7 ∷ 7 ∷ 7 ∷ 0 ∷ 0 ∷ 0 ∷ 0 ∷ 7 ∷ 0 ∷ 0 ∷ 0 ∷ [];
       contents = 14 ∷ 13 ∷ 13 ∷ 13 ∷ 14 ∷ 14 ∷ 14 ∷ 14 ∷ 13 ∷ 14 ∷ 14 ∷ 10 ∷ [];
-      given = 6 ∷ 13 ∷ 13 ∷ 13 ∷ [];
+      given = 14 ∷ 13 ∷ [];
       beta = 2;
       gamma = 1;
       alpha = 16;
     }
 
--- 098
+-- brokenposition
 abbrev brokenPosition : Sheet
 brokenPosition =
     record {
       p = 17;
       n = 2;
-      selectors = 1 ∷ 2 ∷ 1 ∷ 14 ∷ 16 ∷ 2 ∷ 0 ∷ 3 ∷ 13 ∷ 2 ∷ [];
+      selectors = 1 ∷ 2 ∷ 0 ∷ 14 ∷ 0 ∷ 2 ∷ 0 ∷ 3 ∷ 0 ∷ 4 ∷ [];
       labels = 1 ∷ 0 ∷ 5 ∷ 5 ∷ 2 ∷ 3 ∷ [];
       contents = 9 ∷ 4 ∷ 16 ∷ 9 ∷ 9 ∷ 13 ∷ [];
-      given = 12 ∷ 15 ∷ [];
+      given = 9 ∷ [];
       beta = 0;
       gamma = 0;
       alpha = 16;
     }
 
--- 026
+-- zerorow
 abbrev zeroRow : Sheet
 zeroRow =
     record {
       p = 17;
       n = 4;
-      selectors = 0 ∷ 16 ∷ 1 ∷ 0 ∷ 13 ∷ 11 ∷ 1 ∷ 0 ∷ 9 ∷ 14 ∷ 16 ∷ 0 ∷ 7 ∷ 11 ∷ 0 ∷ 0 ∷ 10 ∷ 5 ∷ 13 ∷ 2 ∷ [];
+      selectors = 1 ∷ 1 ∷ 1 ∷ 0 ∷ 0 ∷ 0 ∷ 1 ∷ 0 ∷ 0 ∷ 0 ∷ 16 ∷ 0 ∷ 0 ∷ 0 ∷ 0 ∷ 0 ∷ 0 ∷ 0 ∷ 7 ∷ 0 ∷ [];
       labels = 1 ∷ 6 ∷ 6 ∷ 6 ∷ 6 ∷ 1 ∷ 1 ∷ 1 ∷ 1 ∷ 1 ∷ 1 ∷ 1 ∷ [];
       contents = 10 ∷ 10 ∷ 10 ∷ 10 ∷ 10 ∷ 10 ∷ 10 ∷ 10 ∷ 10 ∷ 10 ∷ 10 ∷ 10 ∷ [];
-      given = 12 ∷ 2 ∷ 6 ∷ 2 ∷ [];
+      given = 10 ∷ 10 ∷ [];
       beta = 1;
       gamma = 5;
       alpha = 16;
     }
 
--- 087
+-- largestposition
 abbrev largestPosition : Sheet
 largestPosition =
     record {
       p = 2013265921;
       n = 2;
-      selectors = 0 ∷ 1186321816 ∷ 0 ∷ 458301168 ∷ 0 ∷ 1084183007 ∷ 0 ∷ 1394348527 ∷ 1145821779 ∷ 217699638 ∷ [];
+      selectors = 1 ∷ 1186321816 ∷ 0 ∷ 458301168 ∷ 0 ∷ 1084183007 ∷ 0 ∷ 1394348527 ∷ 0 ∷ 217699638 ∷ [];
       labels = 2 ∷ 0 ∷ 0 ∷ 2 ∷ 1 ∷ 1 ∷ [];
       contents = 178772313 ∷ 632754882 ∷ 632754882 ∷ 469316525 ∷ 1621159078 ∷ 1621159078 ∷ [];
-      given = 1145821779 ∷ [];
+      given = 178772313 ∷ [];
       beta = 413723128;
       gamma = 1;
       alpha = 1;
     }
 
--- 119
+-- largestzero
 abbrev largestZero : Sheet
 largestZero =
     record {
       p = 2013265921;
       n = 2;
-      selectors = 0 ∷ 0 ∷ 0 ∷ 0 ∷ 0 ∷ 0 ∷ 0 ∷ 0 ∷ 440134182 ∷ 1433135772 ∷ [];
+      selectors = 1 ∷ 0 ∷ 0 ∷ 0 ∷ 0 ∷ 0 ∷ 0 ∷ 0 ∷ 0 ∷ 0 ∷ [];
       labels = 1 ∷ 1 ∷ 0 ∷ 2 ∷ 0 ∷ 2 ∷ [];
       contents = 1356271997 ∷ 1356271997 ∷ 931548628 ∷ 941305220 ∷ 931548628 ∷ 941305220 ∷ [];
-      given = 440134182 ∷ 1433135772 ∷ [];
+      given = 1356271997 ∷ [];
       beta = 1;
       gamma = 1071961662;
       alpha = 2013265920;
@@ -195,29 +213,29 @@ largestZero =
 -- what preparing writes for the three valid sheets, and their transcripts
 
 abbrev seventeenPrepared : List ℕ
-seventeenPrepared = 5 ∷ 7 ∷ 13 ∷ 9 ∷ 3 ∷ 9 ∷ 11 ∷ 11 ∷ 7 ∷ 11 ∷ 2 ∷ 14 ∷ 8 ∷ 3 ∷ 4 ∷ 2 ∷ 7 ∷ 2 ∷ 12 ∷ 6 ∷ 5 ∷ 7 ∷ 13 ∷ 8 ∷ 12 ∷ 0 ∷ 3 ∷ 3 ∷ 0 ∷ 0 ∷ 0 ∷ 8 ∷ []
+seventeenPrepared = 14 ∷ 4 ∷ 13 ∷ 4 ∷ 3 ∷ 9 ∷ 11 ∷ 11 ∷ 7 ∷ 11 ∷ 2 ∷ 14 ∷ 8 ∷ 3 ∷ 4 ∷ 2 ∷ 6 ∷ 14 ∷ 8 ∷ 6 ∷ 5 ∷ 7 ∷ 13 ∷ 8 ∷ 12 ∷ 0 ∷ 3 ∷ 3 ∷ 0 ∷ 0 ∷ 0 ∷ 8 ∷ []
 
 abbrev seventeenTranscript : List ℕ
-seventeenTranscript = 12 ∷ 14 ∷ 8 ∷ 3 ∷ 3 ∷ 3 ∷ 10 ∷ 4 ∷ 13 ∷ 16 ∷ 16 ∷ 1 ∷ 0 ∷ 16 ∷ 7 ∷ 12 ∷ 9 ∷ 11 ∷ 0 ∷ 5 ∷ 9 ∷ 10 ∷ 8 ∷ 11 ∷ 10 ∷ []
+seventeenTranscript = 12 ∷ 14 ∷ 8 ∷ 3 ∷ 3 ∷ 3 ∷ 10 ∷ 4 ∷ 13 ∷ 16 ∷ 16 ∷ 1 ∷ 0 ∷ 16 ∷ 7 ∷ 12 ∷ 15 ∷ 5 ∷ 2 ∷ 5 ∷ 9 ∷ 10 ∷ 8 ∷ 11 ∷ 10 ∷ []
 
 abbrev ninetySevenPrepared : List ℕ
-ninetySevenPrepared = 8 ∷ 86 ∷ 56 ∷ 75 ∷ 81 ∷ 62 ∷ 32 ∷ 51 ∷ 51 ∷ 52 ∷ 52 ∷ 52 ∷ 15 ∷ 33 ∷ 63 ∷ 44 ∷ 81 ∷ 28 ∷ 65 ∷ 91 ∷ 13 ∷ 51 ∷ 7 ∷ 91 ∷ 64 ∷ 52 ∷ 33 ∷ 50 ∷ 20 ∷ 50 ∷ 52 ∷ 0 ∷ []
+ninetySevenPrepared = 49 ∷ 30 ∷ 0 ∷ 19 ∷ 73 ∷ 54 ∷ 24 ∷ 43 ∷ 72 ∷ 73 ∷ 73 ∷ 73 ∷ 49 ∷ 67 ∷ 0 ∷ 78 ∷ 39 ∷ 83 ∷ 23 ∷ 49 ∷ 13 ∷ 51 ∷ 7 ∷ 91 ∷ 64 ∷ 52 ∷ 33 ∷ 50 ∷ 20 ∷ 50 ∷ 52 ∷ 0 ∷ []
 
 abbrev ninetySevenTranscript : List ℕ
-ninetySevenTranscript = 83 ∷ 78 ∷ 18 ∷ 56 ∷ 54 ∷ 86 ∷ 93 ∷ 68 ∷ 90 ∷ 56 ∷ 38 ∷ 8 ∷ 49 ∷ 46 ∷ 44 ∷ 56 ∷ 7 ∷ 58 ∷ 72 ∷ 25 ∷ 88 ∷ 44 ∷ 79 ∷ 19 ∷ 39 ∷ []
+ninetySevenTranscript = 83 ∷ 78 ∷ 18 ∷ 56 ∷ 54 ∷ 86 ∷ 93 ∷ 68 ∷ 90 ∷ 56 ∷ 38 ∷ 8 ∷ 49 ∷ 46 ∷ 44 ∷ 56 ∷ 71 ∷ 88 ∷ 29 ∷ 50 ∷ 18 ∷ 21 ∷ 79 ∷ 19 ∷ 39 ∷ []
 
 abbrev largestPrepared : List ℕ
-largestPrepared = 1483791188 ∷ 254732661 ∷ 1536107694 ∷ 751900300 ∷ 1988419038 ∷ 1423016561 ∷ 1031479844 ∷ 1596882321 ∷ 165737721 ∷ 1565592551 ∷ 840895239 ∷ 1454306330 ∷ 921448842 ∷ 724881000 ∷ 1091817079 ∷ 1288384921 ∷ 1188916686 ∷ 1794814243 ∷ 1843745463 ∷ 439783883 ∷ 1890071282 ∷ 1006632969 ∷ 123194639 ∷ 1006632953 ∷ 1704359424 ∷ 516404282 ∷ 308906001 ∷ 1496861174 ∷ 432101136 ∷ 432101601 ∷ 432101136 ∷ 432100640 ∷ []
+largestPrepared = 503316481 ∷ 1509949441 ∷ 503316480 ∷ 1509949441 ∷ 1509949441 ∷ 1942050569 ∷ 503316480 ∷ 71215352 ∷ 503316480 ∷ 71215352 ∷ 1509949441 ∷ 1942050569 ∷ 0 ∷ 0 ∷ 0 ∷ 0 ∷ 43138000 ∷ 1664310411 ∷ 1970127921 ∷ 348955510 ∷ 1890071282 ∷ 1006632969 ∷ 123194639 ∷ 1006632953 ∷ 1704359424 ∷ 516404282 ∷ 308906001 ∷ 1496861174 ∷ 432101136 ∷ 432101601 ∷ 432101136 ∷ 432100640 ∷ []
 
 abbrev largestTranscript : List ℕ
-largestTranscript = 50190781 ∷ 1101224727 ∷ 819351192 ∷ 1999408925 ∷ 232282727 ∷ 1186754120 ∷ 1228580325 ∷ 1186754120 ∷ 676424581 ∷ 1409873175 ∷ 742612266 ∷ 201324222 ∷ 977496526 ∷ 237887515 ∷ 1211977324 ∷ 1599170478 ∷ 1354253647 ∷ 758985420 ∷ 442335091 ∷ 662695776 ∷ 287330290 ∷ 1792090834 ∷ 1638934222 ∷ 121264089 ∷ 1961147648 ∷ []
+largestTranscript = 50190781 ∷ 1101224727 ∷ 819351192 ∷ 1999408925 ∷ 232282727 ∷ 1186754120 ∷ 1228580325 ∷ 1186754120 ∷ 676424581 ∷ 1409873175 ∷ 742612266 ∷ 201324222 ∷ 977496526 ∷ 237887515 ∷ 1211977324 ∷ 1599170478 ∷ 1739109928 ∷ 1878052840 ∷ 329032804 ∷ 1100539225 ∷ 1847986093 ∷ 1539179246 ∷ 1638934222 ∷ 121264089 ∷ 1961147648 ∷ []
 
 -- THE CASES OF 17 AND 97
 
 abbrev pub table : List Case
 table =
     record { what = "17: gates with public inputs"; is = numbers (gates seventeen); should = numbers (0 ∷ 0 ∷ 0 ∷ 0 ∷ []) }
-    ∷ record { what = "17: 9, 10, 11 nowhere"; is = numbers (broken seventeen); should = numbers (4 ∷ 12 ∷ 4 ∷ []) }
+    ∷ record { what = "17: 14, 9, 10, 11 nowhere"; is = numbers (broken seventeen); should = numbers (2 ∷ 4 ∷ 12 ∷ 4 ∷ []) }
     ∷ record { what = "17: prepared"; is = numbers (prepared 17 4 (circuit seventeen)); should = numbers seventeenPrepared }
     ∷ record { what = "17: transcript"; is = numbers (transcriptOf seventeen); should = numbers seventeenTranscript }
     ∷ record { what = "17: row check"; is = rows (rowCheck seventeen (1 ∷ 11 ∷ 13 ∷ 9 ∷ [])); should = rows pass }
@@ -225,23 +243,24 @@ table =
     ∷ record { what = "17: row check, z(0) is 2"; is = rows (rowCheck seventeen (2 ∷ 11 ∷ 13 ∷ 9 ∷ [])); should = rows (fails startIdentity 0) }
     ∷ record { what = "17: row check, z(3) is 8"; is = rows (rowCheck seventeen (1 ∷ 11 ∷ 13 ∷ 8 ∷ [])); should = rows (fails stepIdentity 2) }
     ∷ record { what = "17: point check, zeta 2"; is = atPoint (pointCheck seventeen seventeenPrepared seventeenTranscript 2); should = atPoint accept }
-    ∷ record { what = "17: point check, zeta 2, last number changed"; is = atPoint (pointCheck seventeen seventeenPrepared (12 ∷ 14 ∷ 8 ∷ 3 ∷ 3 ∷ 3 ∷ 10 ∷ 4 ∷ 13 ∷ 16 ∷ 16 ∷ 1 ∷ 0 ∷ 16 ∷ 7 ∷ 12 ∷ 9 ∷ 11 ∷ 0 ∷ 5 ∷ 9 ∷ 10 ∷ 8 ∷ 11 ∷ 11 ∷ []) 2); should = atPoint reject }
+    ∷ record { what = "17: point check, zeta 2, last number changed"; is = atPoint (pointCheck seventeen seventeenPrepared (12 ∷ 14 ∷ 8 ∷ 3 ∷ 3 ∷ 3 ∷ 10 ∷ 4 ∷ 13 ∷ 16 ∷ 16 ∷ 1 ∷ 0 ∷ 16 ∷ 7 ∷ 12 ∷ 15 ∷ 5 ∷ 2 ∷ 5 ∷ 9 ∷ 10 ∷ 8 ∷ 11 ∷ 11 ∷ []) 2); should = atPoint reject }
     ∷ record { what = "17, refused by 9: gates"; is = numbers (gates brokenRow); should = numbers (0 ∷ 0 ∷ 0 ∷ 4 ∷ []) }
-    ∷ record { what = "17, refused by 9: at row 3"; is = numbers (broken brokenRow); should = numbers (3 ∷ 11 ∷ 4 ∷ []) }
+    ∷ record { what = "17, refused by 9: at row 3"; is = numbers (broken brokenRow); should = numbers (2 ∷ 3 ∷ 11 ∷ 4 ∷ []) }
     ∷ record { what = "17, refused by 9: row check"; is = rows (rowCheck brokenRow (1 ∷ 0 ∷ 0 ∷ 0 ∷ [])); should = rows (fails gateIdentity 3) }
-    ∷ record { what = "17, refused by 10: at position 3"; is = numbers (broken brokenPosition); should = numbers (2 ∷ 3 ∷ 2 ∷ []) }
-    ∷ record { what = "17, refused by 11: at row 2"; is = numbers (broken zeroRow); should = numbers (4 ∷ 12 ∷ 2 ∷ []) }
+    ∷ record { what = "17, refused by 10: at position 3"; is = numbers (broken brokenPosition); should = numbers (1 ∷ 2 ∷ 3 ∷ 2 ∷ []) }
+    ∷ record { what = "17, refused by 11: at row 2"; is = numbers (broken zeroRow); should = numbers (2 ∷ 4 ∷ 12 ∷ 2 ∷ []) }
     ∷ record { what = "97: gates with public inputs"; is = numbers (gates ninetySeven); should = numbers (0 ∷ 0 ∷ 0 ∷ 0 ∷ []) }
-    ∷ record { what = "97: 9, 10, 11 nowhere"; is = numbers (broken ninetySeven); should = numbers (4 ∷ 12 ∷ 4 ∷ []) }
+    ∷ record { what = "97: 14, 9, 10, 11 nowhere"; is = numbers (broken ninetySeven); should = numbers (1 ∷ 4 ∷ 12 ∷ 4 ∷ []) }
     ∷ record { what = "97: prepared"; is = numbers (prepared 97 4 (circuit ninetySeven)); should = numbers ninetySevenPrepared }
     ∷ record { what = "97: transcript"; is = numbers (transcriptOf ninetySeven); should = numbers ninetySevenTranscript }
     ∷ record { what = "97: row check"; is = rows (rowCheck ninetySeven (1 ∷ 76 ∷ 88 ∷ 31 ∷ [])); should = rows pass }
     ∷ record { what = "97: point check, zeta 31"; is = atPoint (pointCheck ninetySeven ninetySevenPrepared ninetySevenTranscript 31); should = atPoint accept }
+    ∷ record { what = "97, refused by 14: at row 2"; is = numbers (broken unbound); should = numbers (2 ∷ 2 ∷ 12 ∷ 4 ∷ []) }
     ∷ []
 
 right : All (λ r. r .is ≡ r .should) table
-unfolding tab powF first inverse quotientVanishing reduced generator root point multiplier tag interpolation lentWitness permutation gate rowN rowD rowZ polyN polyD polyL gatePart stepPart startPart polyF quotient prepared rowsFrom pointVerdict brokenGate brokenCopy zeroFactor
-right = refl & refl & refl & refl & refl & refl & refl & refl & refl & refl & refl & refl & refl & refl & refl & refl & refl & refl & refl & refl & refl & tt
+unfolding unboundRow tab powF first inverse quotientVanishing reduced generator root point multiplier tag interpolation lentWitness permutation gate rowN rowD rowZ polyN polyD polyL gatePart stepPart startPart polyF quotient prepared rowsFrom pointVerdict brokenGate brokenCopy zeroFactor
+right = refl & refl & refl & refl & refl & refl & refl & refl & refl & refl & refl & refl & refl & refl & refl & refl & refl & refl & refl & refl & refl & refl & tt
 
 -- THE CASES OF THE LARGEST PRIME
 
@@ -274,7 +293,7 @@ largestTable =
     record { what = "tags"; is = numbers (tab (tag 2013265921 4) 12); should = numbers (1 ∷ 1728404513 ∷ 2013265920 ∷ 284861408 ∷ 31 ∷ 1235625957 ∷ 2013265890 ∷ 777639964 ∷ 961 ∷ 52352168 ∷ 2013264960 ∷ 1960913753 ∷ []) }
     ∷ record { what = "permutation"; is = numbers (tab (permutation 12 (circuit largest .label)) 12); should = numbers (0 ∷ 5 ∷ 2 ∷ 3 ∷ 10 ∷ 7 ∷ 6 ∷ 8 ∷ 1 ∷ 9 ∷ 4 ∷ 11 ∷ []) }
     ∷ record { what = "gates with public inputs"; is = numbers (gates largest); should = numbers (0 ∷ 0 ∷ 0 ∷ 0 ∷ []) }
-    ∷ record { what = "9, 10, 11 nowhere"; is = numbers (broken largest); should = numbers (4 ∷ 12 ∷ 4 ∷ []) }
+    ∷ record { what = "14, 9, 10, 11 nowhere"; is = numbers (broken largest); should = numbers (2 ∷ 4 ∷ 12 ∷ 4 ∷ []) }
     ∷ record { what = "N"; is = numbers (tab (rowN 2013265921 4 (witness largest) (largest .beta) (largest .gamma)) 4); should = numbers (978481072 ∷ 662039115 ∷ 1617936002 ∷ 392445123 ∷ []) }
     ∷ record { what = "D"; is = numbers (tab (rowD 2013265921 4 (circuit largest) (witness largest) (largest .beta) (largest .gamma)) 4); should = numbers (1022427386 ∷ 979458398 ∷ 242013346 ∷ 293572783 ∷ []) }
     ∷ record { what = "z on the rows"; is = numbers (tab (rowZ 2013265921 4 (circuit largest) (witness largest) (largest .beta) (largest .gamma)) 4); should = numbers (1 ∷ 176312996 ∷ 352415857 ∷ 1367991329 ∷ []) }
@@ -282,15 +301,15 @@ largestTable =
     ∷ record { what = "prepared"; is = numbers (prepared 2013265921 4 (circuit largest)); should = numbers largestPrepared }
     ∷ record { what = "wires"; is = numbers (wiresOf 2013265921 4 (witness largest) 0 ++ (wiresOf 2013265921 4 (witness largest) 1 ++ wiresOf 2013265921 4 (witness largest) 2)); should = numbers (50190781 ∷ 1101224727 ∷ 819351192 ∷ 1999408925 ∷ 232282727 ∷ 1186754120 ∷ 1228580325 ∷ 1186754120 ∷ 676424581 ∷ 1409873175 ∷ 742612266 ∷ 201324222 ∷ []) }
     ∷ record { what = "z"; is = numbers (zOf 2013265921 4 (circuit largest) (witness largest) (largest .beta) (largest .gamma)); should = numbers (977496526 ∷ 237887515 ∷ 1211977324 ∷ 1599170478 ∷ []) }
-    ∷ record { what = "t, of the prepared circuit, the wires and z"; is = numbers (quotient 2013265921 4 (pointF 2013265921 4 largestPrepared (publics largest) largestTranscript (largest .beta) (largest .gamma) (largest .alpha))); should = numbers (1354253647 ∷ 758985420 ∷ 442335091 ∷ 662695776 ∷ 287330290 ∷ 1792090834 ∷ 1638934222 ∷ 121264089 ∷ 1961147648 ∷ []) }
+    ∷ record { what = "t, of the prepared circuit, the wires and z"; is = numbers (quotient 2013265921 4 (pointF 2013265921 4 largestPrepared (publics largest) largestTranscript (largest .beta) (largest .gamma) (largest .alpha))); should = numbers (1739109928 ∷ 1878052840 ∷ 329032804 ∷ 1100539225 ∷ 1847986093 ∷ 1539179246 ∷ 1638934222 ∷ 121264089 ∷ 1961147648 ∷ []) }
     ∷ record { what = "point check, zeta 2"; is = atPoint (pointCheck largest largestPrepared largestTranscript 2); should = atPoint accept }
-    ∷ record { what = "refused by 10: at position 3"; is = numbers (broken largestPosition); should = numbers (2 ∷ 3 ∷ 2 ∷ []) }
+    ∷ record { what = "refused by 10: at position 3"; is = numbers (broken largestPosition); should = numbers (1 ∷ 2 ∷ 3 ∷ 2 ∷ []) }
     ∷ record { what = "refused by 10: row check, the last step"; is = rows (rowCheck largestPosition (1 ∷ 1607777443 ∷ [])); should = rows (fails stepIdentity 1) }
-    ∷ record { what = "refused by 11: at row 1"; is = numbers (broken largestZero); should = numbers (2 ∷ 6 ∷ 1 ∷ []) }
+    ∷ record { what = "refused by 11: at row 1"; is = numbers (broken largestZero); should = numbers (1 ∷ 2 ∷ 6 ∷ 1 ∷ []) }
     ∷ []
 
 largest-right : All (λ r. r .is ≡ r .should) largestTable
-unfolding tab powF first quotientVanishing reduced generator point multiplier tag interpolation lentWitness permutation gate rowN rowD rowZ polyN polyD polyL gatePart stepPart startPart polyF quotient prepared rowsFrom pointVerdict brokenGate brokenCopy zeroFactor
+unfolding unboundRow tab powF first quotientVanishing reduced generator point multiplier tag interpolation lentWitness permutation gate rowN rowD rowZ polyN polyD polyL gatePart stepPart startPart polyF quotient prepared rowsFrom pointVerdict brokenGate brokenCopy zeroFactor
 largest-right =
     (rw root-4)
     & refl

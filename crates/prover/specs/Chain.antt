@@ -1,7 +1,8 @@
 -- The last sentence of demand 3 about the calls themselves: what `prove` lays, `check_rows` and `check_point` take.
 --
 -- THE STATEMENT
--- PassesChecks   of an accepted `prove`: `check_rows`, lent the values of its z, answers Pass; `prepare`, then `check_point` at any zeta, answers Accept
+-- PassesChecks   of an accepted `prove`: a has the public inputs at the rows' points; `check_rows`, lent the values of its z, answers Pass; `prepare`, then
+--                `check_point` at any zeta, answers Accept
 -- THE THEOREM
 -- passes-laid     PassesChecks holds of the transcript of the definitions, where no reason of the prover applies
 -- proved-passes   PassesChecks holds of every accepted `prove`
@@ -22,13 +23,14 @@ use Rattle.field.specs.declared.Answer.{Answer}
 use Rattle.field.specs.Fields.{Admissible}
 use Rattle.field.specs.Primes.{field-prime}
 use Rattle.field.specs.Reasons.{isAccepted}
-use Rattle.transform.specs.Transform.{evaluation, scratchLength}
+use Rattle.transform.specs.Transform.{valueAt, evaluation, scratchLength}
 use Rattle.transform.specs.Interpolation.{interpolation-one}
-use Rattle.circuit.specs.Circuit.{Constraints, lentConstraints, lentPublic, lentWitness}
-use Rattle.circuit.specs.Buffers.{preparedLength, zPart}
+use Rattle.circuit.specs.Circuit.{Constraints, position, lentConstraints, lentPublic, lentWitness}
+use Rattle.circuit.specs.Buffers.{preparedLength, wirePart, zPart}
 use Rattle.circuit.specs.RightlyLent.{prepare-taken}
+use Rattle.circuit.specs.Witness.{lent-below}
 use Rattle.protocol.specs.Protocol.{rowZ, wiresOf, zOf, tOf, prepared}
-use Rattle.protocol.specs.Layout.{z-part}
+use Rattle.protocol.specs.Layout.{wire-part, z-part}
 use Rattle.protocol.specs.Lengths.{interpolation-length}
 use Rattle.protocol.specs.Rows.{rowZ-lt}
 use Rattle.preparing.specs.Promises.{Prepares}
@@ -46,6 +48,8 @@ use Rattle.prover.specs.Promises.{provedFrom, Proves}
 
 -- the buffers that `prove` was lent, and the transcript that it left
 pub record PassesChecks (p n l : ℕ) (selectors labels witness publics challenges transcript' : List ℕ) : Type 0 where
+  -- the values of the transcript's a at the points of the rows below l
+  pub publics-bound : (i : ℕ) → i < l → valueAt p n (wirePart n 0 transcript') i ≡ lentPublic publics i
   -- lent the values of the transcript's z
   pub rows-pass : (r : RowAnswer)
       → ChecksRows p n l selectors labels witness publics (evaluation p n (zPart n transcript')) (getD challenges 0 0 ∷ getD challenges 1 0 ∷ []) r
@@ -102,9 +106,20 @@ module _ (p n l : ℕ) (selectors labels witness publics transcript challenges s
       (interpolation-length p n _))
       ∙ z-values p n (A .admissible) C (lentWitness n witness) beta gamma
 
+  a-bound : (i : ℕ) → i < l → valueAt p n (wirePart n 0 laid) i ≡ lentPublic publics i
+  a-bound i h =
+      let v : ℕ → ℕ = lentWitness n witness in
+      let few = A .circuit-right .circuit .publics-few in
+      ap (λ (f : List ℕ). valueAt p n f i)
+      (wire-part n (wiresOf p n v) (zOf p n C v beta gamma) (tOf p n C (lentPublic publics) v beta gamma alpha) (λ c h. interpolation-length p n _) 0 (omega arith))
+      ∙ interpolation-one p n (A .admissible) (λ i. v (position n 0 i)) .values i (omega arith)
+      ∙ mod-eq-of-lt (lent-below n (A .witness-right) (position n 0 i) (omega arith))
+      ∙ counted .publics-bound witness (A .witness-right) (A .satisfies) i h
+
   pub passes-laid : PassesChecks p n l selectors labels witness publics challenges (provedFrom p n selectors labels witness publics challenges)
   passes-laid =
       record {
+        publics-bound = a-bound;
         rows-pass = λ r checks.
             counted .honest-rows witness (A .witness-right) (A .satisfies) beta gamma (below 0 (omega arith)) (below 1 (omega arith)) (A .no-zero) r
             (subst (λ (z : List ℕ). ChecksRows p n l selectors labels witness publics z (beta ∷ gamma ∷ []) r) z-lent checks);

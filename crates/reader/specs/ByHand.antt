@@ -10,12 +10,12 @@ use Prim.Native.Nat.{ℕ, _+_, _*_, _%_, _^_}
 use lib.ListN.{getD}
 use Rattle.algebra.specs.Lists.{tab, All}
 use Rattle.algebra.specs.Modular.{powF, first, inverse}
-use Rattle.algebra.specs.Polynomial.{coef, eval, addP, scaleP, mulP, linear, dilate, reduced, remainderVanishing}
+use Rattle.algebra.specs.Polynomial.{coef, eval, addP, scaleP, mulP, linear, dilate, reduced, quotientVanishing, remainderVanishing}
 use Rattle.field.specs.Fields.{generator, root, point, multiplier, tag}
 use Rattle.transform.specs.Transform.{evaluation, interpolation}
 use Rattle.transform.specs.Passes.{strided, oddWord, passed}
-use Rattle.circuit.specs.Circuit.{lentWitness, permutation}
-use Rattle.protocol.specs.Protocol.{wiredTag, rowN, rowD, rowZ, polyN, polyD, polyL, gatePart, stepPart, startPart, polyF, preparedPoly, prepared, wiresOf, zOf}
+use Rattle.circuit.specs.Circuit.{Constraints, lentConstraints, lentPublic, lentWitness, permutation, gate}
+use Rattle.protocol.specs.Protocol.{wiredTag, rowN, rowD, rowZ, polyN, polyD, polyL, gatePart, stepPart, startPart, polyF, quotient, preparedPoly, prepared, wiresOf, zOf, proved}
 use Rattle.protocol.specs.Worked.{circuit, publics, witness, Case, number, numbers, _&_}
 use Rattle.opening.specs.Opening.{polynomialOf, less, named, evaluationsOf, mixtureOf}
 use Rattle.opening.specs.Worked as opened
@@ -64,6 +64,21 @@ once = passed 17 points 2 2 coefficients
 abbrev twice : List ℕ
 twice = passed 17 points 1 2 once
 
+-- the sheet with row 0 made a public row, and the public input 2
+abbrev bound : Constraints
+bound = lentConstraints 2 (1 ∷ 1 ∷ 0 ∷ 1 ∷ 0 ∷ 16 ∷ 0 ∷ 0 ∷ 0 ∷ 0 ∷ []) (0 ∷ 2 ∷ 1 ∷ 2 ∷ 2 ∷ 3 ∷ [])
+
+abbrev two : ℕ → ℕ
+two = lentPublic (2 ∷ [])
+
+abbrev boundF : List ℕ
+boundF = polyF 17 2 (preparedPoly 17 2 bound) wire (interpolation 17 2 two) z 1 1 2
+
+-- the gate of a row with qL and qC alone, where 4798 stands at a and 5798 is the public input
+abbrev meterGate : ℕ → ℕ → ℕ
+meterGate l c =
+    gate 2013265921 8 record { qL = λ i. l; qR = λ i. 0; qO = λ i. 0; qM = λ i. 0; qC = λ i. c; label = λ k. k } (λ i. 5798) (λ k. 4798) 4
+
 abbrev pub table : List Case
 table =
     record { what = "w"; is = number (root 17 2); should = number 16 }
@@ -100,6 +115,16 @@ table =
     ∷ record { what = "(z - 1) × L"; is = numbers (reduced 17 3 (startPart 17 2 z)); should = numbers (16 ∷ 0 ∷ 1 ∷ []) }
     ∷ record { what = "F"; is = numbers (reduced 17 5 F); should = numbers (8 ∷ 5 ∷ 11 ∷ 12 ∷ 15 ∷ []) }
     ∷ record { what = "the remainder"; is = numbers (reduced 17 2 (remainderVanishing 2 3 F)); should = numbers (0 ∷ 0 ∷ []) }
+    ∷ record { what = "meter: qL 0, qC 5798, public sum 5798"; is = number (meterGate 0 5798); should = number 0 }
+    ∷ record { what = "meter: qL 1, qC 0, public sum 5798"; is = number (meterGate 1 0); should = number 2013264921 }
+    ∷ record { what = "public row: selectors and wired tags as polynomials"; is = numbers (prepared 17 2 bound); should = numbers (1 ∷ 0 ∷ 9 ∷ 8 ∷ 8 ∷ 9 ∷ 0 ∷ 0 ∷ 0 ∷ 0 ∷ 16 ∷ 2 ∷ 6 ∷ 14 ∷ 12 ∷ 4 ∷ []) }
+    ∷ record { what = "public row: the public inputs"; is = numbers (interpolation 17 2 two); should = numbers (1 ∷ 1 ∷ []) }
+    ∷ record { what = "public row: qL × a"; is = numbers (reduced 17 2 (mulP (preparedPoly 17 2 bound 0) (wire 0))); should = numbers (4 ∷ 15 ∷ []) }
+    ∷ record { what = "public row: qO × c"; is = numbers (reduced 17 3 (mulP (preparedPoly 17 2 bound 2) (wire 2))); should = numbers (4 ∷ 6 ∷ 7 ∷ []) }
+    ∷ record { what = "public row: gate"; is = numbers (reduced 17 3 (gatePart 17 (preparedPoly 17 2 bound) wire (interpolation 17 2 two))); should = numbers (5 ∷ 0 ∷ 12 ∷ []) }
+    ∷ record { what = "public row: F"; is = numbers (reduced 17 5 boundF); should = numbers (13 ∷ 15 ∷ 6 ∷ 2 ∷ 15 ∷ []) }
+    ∷ record { what = "public row: transcript"; is = numbers (proved 17 2 bound two witness 1 1 2); should = numbers (4 ∷ 15 ∷ 13 ∷ 7 ∷ 9 ∷ 14 ∷ 16 ∷ 2 ∷ 4 ∷ 2 ∷ 15 ∷ []) }
+    ∷ record { what = "public row: gate of row 0, public input 3"; is = number (gate 17 2 bound (lentPublic (3 ∷ [])) witness 0); should = number 16 }
     ∷ record { what = "a, b, c, z, each less its value at 2"; is = numbers (reduced 17 2 (shifted 0) ++ (reduced 17 2 (shifted 1) ++ (reduced 17 2 (shifted 2) ++ reduced 17 2 (shifted 3)))); should = numbers (4 ∷ 15 ∷ 3 ∷ 7 ∷ 6 ∷ 14 ∷ 13 ∷ 2 ∷ []) }
     ∷ record { what = "t less its value at 2"; is = numbers (reduced 17 3 (shifted 4)); should = numbers (1 ∷ 12 ∷ 15 ∷ []) }
     ∷ record { what = "powers of 3"; is = numbers (tab (λ i. 3 ^ i % 17) 5); should = numbers (1 ∷ 3 ∷ 9 ∷ 10 ∷ 13 ∷ []) }
@@ -112,5 +137,5 @@ table =
     ∷ []
 
 pub by-hand : All (λ r. r .is ≡ r .should) table
-unfolding tab powF first inverse reduced remainderVanishing generator root point multiplier tag evaluation interpolation strided passed lentWitness permutation rowN rowD rowZ polyN polyD polyL gatePart stepPart startPart polyF prepared polynomialOf evaluationsOf mixtureOf
-by-hand = refl & refl & refl & refl & refl & refl & refl & refl & refl & refl & refl & refl & refl & refl & refl & refl & refl & refl & refl & refl & refl & refl & refl & refl & refl & refl & refl & refl & refl & refl & refl & refl & refl & refl & refl & refl & refl & refl & refl & refl & refl & refl & refl & tt
+unfolding tab powF first inverse reduced quotientVanishing remainderVanishing generator root point multiplier tag evaluation interpolation strided passed lentWitness permutation rowN rowD rowZ polyN polyD polyL gatePart stepPart startPart polyF quotient prepared gate polynomialOf evaluationsOf mixtureOf
+by-hand = refl & refl & refl & refl & refl & refl & refl & refl & refl & refl & refl & refl & refl & refl & refl & refl & refl & refl & refl & refl & refl & refl & refl & refl & refl & refl & refl & refl & refl & refl & refl & refl & refl & refl & refl & refl & refl & refl & refl & refl & refl & refl & refl & refl & refl & refl & refl & refl & refl & refl & refl & refl & refl & tt

@@ -55,7 +55,7 @@ decide-numbers-requires c κs =
     let a : length (s .args .selectors .now) ≡ 5 * s .args .n = cc (L .lengths) in
     let b : length (s .args .labels .now) ≡ 3 * s .args .n = cc (L .lengths) in
     let small = rows-power _ _ (L .admissible .rows) .small in
-    ((small, L .publics-few, omega arith), (a, omega arith))
+    ((small, omega (arith, L .publics-few), omega arith), (a, omega arith))
 
 returns-2 : tie.Need-returns-2
 returns-2 c =
