@@ -11,7 +11,7 @@
 -- transcriptText         the lines of a, b, c, z, t of a lent transcript
 -- textLength             the length of the lent buffer
 -- THE TEXT OF A DEPOSIT
--- provedText             the five polynomials and the verdict, of a circuit, public inputs, a witness and beta, gamma, alpha, zeta
+-- provedText             the five polynomials and the verdict, of constraints, public inputs, a witness and beta, gamma, alpha, zeta
 -- workAnswer, workText   of lent numbers: the prover's answer; its refusal, or provedText
 --
 -- Assumes nothing.
@@ -74,7 +74,7 @@ transcriptText n transcript =
 
 -- THE TEXT OF A DEPOSIT
 
--- the five polynomials and the point verdict on them, of a circuit, public inputs, a witness and beta, gamma, alpha, zeta
+-- the five polynomials and the point verdict on them, of constraints, public inputs, a witness and beta, gamma, alpha, zeta
 unfoldable pub provedText : ℕ → ℕ → Constraints → (ℕ → ℕ) → (ℕ → ℕ) → ℕ → ℕ → ℕ → ℕ → List ℕ
 provedText p n C x v beta gamma alpha zeta =
     letterLine 97 (wiresOf p n v 0) ++ (letterLine 98 (wiresOf p n v 1) ++ letterLine 99 (wiresOf p n v 2))

@@ -13,7 +13,7 @@
 -- permutation m label k     where the copy permutation leads from position k (document 01: the wiring): the next higher of the m positions with
 --                           its label, from the highest to the lowest; a lone position leads to itself
 -- gate p n C x v i          the gate of row i: qL×a + qR×b + qO×c + qM×a×b + qC - x
--- Satisfies p n C x v       the witness satisfies the constraints: each gate holds, and positions of equal label agree
+-- Satisfies p n C x v       the witness satisfies the constraints (document 01: the circuit): each gate holds, and positions of equal label agree
 --
 -- Assumes nothing.
 use mathlib.Core.Path.{_≡_}

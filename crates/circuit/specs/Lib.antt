@@ -11,3 +11,4 @@ pub mod Witness
 pub mod Permutation
 pub mod PublicBound
 pub mod RightlyLent
+pub mod Worked

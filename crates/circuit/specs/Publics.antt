@@ -1,6 +1,6 @@
 -- What functions that are lent the public inputs ask.
 --
--- PublicRows p n publics   p and n are admissible, and the public inputs are elements
+-- LentPublics p n publics   p and n are admissible, and the public inputs are elements
 --
 -- Assumes nothing.
 use mathlib.Core.List.{List}
@@ -8,6 +8,6 @@ use Prim.Native.Nat.{ℕ, _<_}
 use Rattle.algebra.specs.Lists.{All}
 use Rattle.field.specs.Fields.{Admissible}
 
-pub record PublicRows (p n : ℕ) (publics : List ℕ) : Type 0 where
+pub record LentPublics (p n : ℕ) (publics : List ℕ) : Type 0 where
   pub admissible : Admissible p n
   pub elements : All (λ (x : ℕ). x < p) publics

@@ -30,7 +30,7 @@ checked p n l publics prepared transcript challenges scratch e =
     let four : length challenges ≡ 4 = cc (lent .lengths) in
     record {
       readable = record { admissible = lent .admissible; prepared-length = cc (lent .lengths); transcript-length = cc (lent .lengths) };
-      public-rows = record { admissible = lent .admissible; elements = all-left P publics (prepared ++ (transcript ++ challenges)) below };
+      publics-lent = record { admissible = lent .admissible; elements = all-left P publics (prepared ++ (transcript ++ challenges)) below };
       challenges-length = four;
       scratch-length = cc (lent .lengths);
       point-element = all-getD P challenges drawn 3 (omega arith);

@@ -5,11 +5,11 @@ ghost use lib.ListN.{length};
 ghost use Rattle.algebra.specs.Polynomial.{eval};
 ghost use Rattle.transform.specs.Transform.{interpolation};
 ghost use Rattle.circuit.specs.Circuit.{lentPublic};
-ghost use Rattle.circuit.specs.Publics.{PublicRows};
+ghost use Rattle.circuit.specs.Publics.{LentPublics};
 
 // Its value at x. The scratch is written.
 pub fn public_at(p: u32, n: u32, publics: &[u32], x: u32, scratch: &mut [u32]) -> u32
-    requires { ⌜ PublicRows p n (now publics) ⌝ }
+    requires { ⌜ LentPublics p n (now publics) ⌝ }
     requires { ⌜ n ≤ length (now scratch) ⌝ }
     ensures { λ r. ⌜ r ≡ eval (interpolation p n (lentPublic (now (publics .entry)))) x % p ⌝ }
 {

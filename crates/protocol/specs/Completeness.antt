@@ -1,4 +1,4 @@
--- Completeness: for a witness that satisfies the circuit, and a pair with no zero factor of any D(i), the z and the t of the definitions hold, and the
+-- Completeness: for a witness that satisfies the constraints, and a pair with no zero factor of any D(i), the z and the t of the definitions hold, and the
 -- point check accepts.
 --
 -- z-passes       z on the rows passes the row check

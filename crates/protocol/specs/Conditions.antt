@@ -1,8 +1,8 @@
--- The reasons that look at the witness, and what they say: 9 and 10 apply nowhere exactly where the witness satisfies the circuit; 11 applies for few
+-- The reasons that look at the witness, and what they say: 9 and 10 apply nowhere exactly where the witness satisfies the constraints; 11 applies for few
 -- pairs.
 --
--- satisfied            where 9 and 10 apply nowhere, the witness satisfies the circuit
--- unbroken             where it satisfies the circuit, 9 and 10 apply nowhere
+-- satisfied            where 9 and 10 apply nowhere, the witness satisfies the constraints
+-- unbroken             where it satisfies the constraints, 9 and 10 apply nowhere
 -- factors-nonzero      where 11 applies nowhere, no factor of any D(i) is zero
 -- few-zero-factors     at most 3n × p pairs (beta, gamma) meet 11
 --

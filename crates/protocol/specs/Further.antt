@@ -1,7 +1,7 @@
 -- Further cases of the definitions, with values that a program not kept here found: sheets over each of the three primes, all with public inputs, so
 -- that a wrong sign of the public input shows. Tags, N, D, z, prepared polynomials, transcripts, both verdicts, and where 14, 9, 10 and 11 apply.
 --
--- Sheet, circuit, publics, witness     a sheet of document 01 as its numbers are lent, and what the definitions read in it
+-- Sheet, constraints, publics, witness     a sheet of document 01 as its numbers are lent, and what the definitions read in it
 -- gates, transcriptOf, rowCheck, pointCheck, broken   the definitions at a sheet; broken: where 14, 9, 10 and 11 apply (l, n, 3n, n: nowhere)
 -- seventeen, ninetySeven, largest      a valid sheet of four rows for each prime
 -- unbound                              a sheet of prime 97 that is refused by 14
@@ -45,8 +45,8 @@ pub record Sheet : Type 0 where
   pub gamma : ℕ
   pub alpha : ℕ
 
-abbrev circuit : Sheet → Constraints
-circuit s = lentConstraints (s .n) (s .selectors) (s .labels)
+abbrev constraints : Sheet → Constraints
+constraints s = lentConstraints (s .n) (s .selectors) (s .labels)
 
 abbrev publics : Sheet → ℕ → ℕ
 publics s = lentPublic (s .given)
@@ -55,23 +55,23 @@ abbrev witness : Sheet → ℕ → ℕ
 witness s = lentWitness (s .n) (s .contents)
 
 abbrev gates : Sheet → List ℕ
-gates s = tab (gate (s .p) (s .n) (circuit s) (publics s) (witness s)) (s .n)
+gates s = tab (gate (s .p) (s .n) (constraints s) (publics s) (witness s)) (s .n)
 
 abbrev transcriptOf : Sheet → List ℕ
-transcriptOf s = proved (s .p) (s .n) (circuit s) (publics s) (witness s) (s .beta) (s .gamma) (s .alpha)
+transcriptOf s = proved (s .p) (s .n) (constraints s) (publics s) (witness s) (s .beta) (s .gamma) (s .alpha)
 
 abbrev rowCheck : Sheet → List ℕ → RowVerdict
-rowCheck s z = rowVerdict (s .p) (s .n) (circuit s) (publics s) (witness s) (λ i. getD z i 0) (s .beta) (s .gamma)
+rowCheck s z = rowVerdict (s .p) (s .n) (constraints s) (publics s) (witness s) (λ i. getD z i 0) (s .beta) (s .gamma)
 
 abbrev pointCheck : Sheet → List ℕ → List ℕ → ℕ → PointVerdict
 pointCheck s pre lent zeta = pointVerdict (s .p) (s .n) pre (publics s) lent (s .beta) (s .gamma) (s .alpha) zeta
 
 abbrev broken : Sheet → List ℕ
 broken s =
-    unboundRow (circuit s) (length (s .given))
-    ∷ brokenGate (s .p) (s .n) (circuit s) (publics s) (witness s)
-    ∷ brokenCopy (s .n) (circuit s) (witness s)
-    ∷ zeroFactor (s .p) (s .n) (circuit s) (witness s) (s .beta) (s .gamma) ∷ []
+    unboundRow (constraints s) (length (s .given))
+    ∷ brokenGate (s .p) (s .n) (constraints s) (publics s) (witness s)
+    ∷ brokenCopy (s .n) (constraints s) (witness s)
+    ∷ zeroFactor (s .p) (s .n) (constraints s) (witness s) (s .beta) (s .gamma) ∷ []
 
 -- THE SHEETS (named as in crates/vectors/data)
 
@@ -236,7 +236,7 @@ abbrev pub table : List Case
 table =
     record { what = "17: gates with public inputs"; is = numbers (gates seventeen); should = numbers (0 ∷ 0 ∷ 0 ∷ 0 ∷ []) }
     ∷ record { what = "17: 14, 9, 10, 11 nowhere"; is = numbers (broken seventeen); should = numbers (2 ∷ 4 ∷ 12 ∷ 4 ∷ []) }
-    ∷ record { what = "17: prepared"; is = numbers (prepared 17 4 (circuit seventeen)); should = numbers seventeenPrepared }
+    ∷ record { what = "17: prepared"; is = numbers (prepared 17 4 (constraints seventeen)); should = numbers seventeenPrepared }
     ∷ record { what = "17: transcript"; is = numbers (transcriptOf seventeen); should = numbers seventeenTranscript }
     ∷ record { what = "17: row check"; is = rows (rowCheck seventeen (1 ∷ 11 ∷ 13 ∷ 9 ∷ [])); should = rows pass }
     ∷ record { what = "17: point check, zeta 4"; is = atPoint (pointCheck seventeen seventeenPrepared seventeenTranscript 4); should = atPoint accept }
@@ -251,7 +251,7 @@ table =
     ∷ record { what = "17, refused by 11: at row 2"; is = numbers (broken zeroRow); should = numbers (2 ∷ 4 ∷ 12 ∷ 2 ∷ []) }
     ∷ record { what = "97: gates with public inputs"; is = numbers (gates ninetySeven); should = numbers (0 ∷ 0 ∷ 0 ∷ 0 ∷ []) }
     ∷ record { what = "97: 14, 9, 10, 11 nowhere"; is = numbers (broken ninetySeven); should = numbers (1 ∷ 4 ∷ 12 ∷ 4 ∷ []) }
-    ∷ record { what = "97: prepared"; is = numbers (prepared 97 4 (circuit ninetySeven)); should = numbers ninetySevenPrepared }
+    ∷ record { what = "97: prepared"; is = numbers (prepared 97 4 (constraints ninetySeven)); should = numbers ninetySevenPrepared }
     ∷ record { what = "97: transcript"; is = numbers (transcriptOf ninetySeven); should = numbers ninetySevenTranscript }
     ∷ record { what = "97: row check"; is = rows (rowCheck ninetySeven (1 ∷ 76 ∷ 88 ∷ 31 ∷ [])); should = rows pass }
     ∷ record { what = "97: point check, zeta 31"; is = atPoint (pointCheck ninetySeven ninetySevenPrepared ninetySevenTranscript 31); should = atPoint accept }
@@ -291,17 +291,17 @@ inverse-D2 = inverse-is 242013346 826009675 (lit< tt) refl
 abbrev pub largestTable : List Case
 largestTable =
     record { what = "tags"; is = numbers (tab (tag 2013265921 4) 12); should = numbers (1 ∷ 1728404513 ∷ 2013265920 ∷ 284861408 ∷ 31 ∷ 1235625957 ∷ 2013265890 ∷ 777639964 ∷ 961 ∷ 52352168 ∷ 2013264960 ∷ 1960913753 ∷ []) }
-    ∷ record { what = "permutation"; is = numbers (tab (permutation 12 (circuit largest .label)) 12); should = numbers (0 ∷ 5 ∷ 2 ∷ 3 ∷ 10 ∷ 7 ∷ 6 ∷ 8 ∷ 1 ∷ 9 ∷ 4 ∷ 11 ∷ []) }
+    ∷ record { what = "permutation"; is = numbers (tab (permutation 12 (constraints largest .label)) 12); should = numbers (0 ∷ 5 ∷ 2 ∷ 3 ∷ 10 ∷ 7 ∷ 6 ∷ 8 ∷ 1 ∷ 9 ∷ 4 ∷ 11 ∷ []) }
     ∷ record { what = "gates with public inputs"; is = numbers (gates largest); should = numbers (0 ∷ 0 ∷ 0 ∷ 0 ∷ []) }
     ∷ record { what = "14, 9, 10, 11 nowhere"; is = numbers (broken largest); should = numbers (2 ∷ 4 ∷ 12 ∷ 4 ∷ []) }
     ∷ record { what = "N"; is = numbers (tab (rowN 2013265921 4 (witness largest) (largest .beta) (largest .gamma)) 4); should = numbers (978481072 ∷ 662039115 ∷ 1617936002 ∷ 392445123 ∷ []) }
-    ∷ record { what = "D"; is = numbers (tab (rowD 2013265921 4 (circuit largest) (witness largest) (largest .beta) (largest .gamma)) 4); should = numbers (1022427386 ∷ 979458398 ∷ 242013346 ∷ 293572783 ∷ []) }
-    ∷ record { what = "z on the rows"; is = numbers (tab (rowZ 2013265921 4 (circuit largest) (witness largest) (largest .beta) (largest .gamma)) 4); should = numbers (1 ∷ 176312996 ∷ 352415857 ∷ 1367991329 ∷ []) }
+    ∷ record { what = "D"; is = numbers (tab (rowD 2013265921 4 (constraints largest) (witness largest) (largest .beta) (largest .gamma)) 4); should = numbers (1022427386 ∷ 979458398 ∷ 242013346 ∷ 293572783 ∷ []) }
+    ∷ record { what = "z on the rows"; is = numbers (tab (rowZ 2013265921 4 (constraints largest) (witness largest) (largest .beta) (largest .gamma)) 4); should = numbers (1 ∷ 176312996 ∷ 352415857 ∷ 1367991329 ∷ []) }
     ∷ record { what = "row check"; is = rows (rowCheck largest (1 ∷ 176312996 ∷ 352415857 ∷ 1367991329 ∷ [])); should = rows pass }
-    ∷ record { what = "prepared"; is = numbers (prepared 2013265921 4 (circuit largest)); should = numbers largestPrepared }
+    ∷ record { what = "prepared"; is = numbers (prepared 2013265921 4 (constraints largest)); should = numbers largestPrepared }
     ∷ record { what = "wires"; is = numbers (wiresOf 2013265921 4 (witness largest) 0 ++ (wiresOf 2013265921 4 (witness largest) 1 ++ wiresOf 2013265921 4 (witness largest) 2)); should = numbers (50190781 ∷ 1101224727 ∷ 819351192 ∷ 1999408925 ∷ 232282727 ∷ 1186754120 ∷ 1228580325 ∷ 1186754120 ∷ 676424581 ∷ 1409873175 ∷ 742612266 ∷ 201324222 ∷ []) }
-    ∷ record { what = "z"; is = numbers (zOf 2013265921 4 (circuit largest) (witness largest) (largest .beta) (largest .gamma)); should = numbers (977496526 ∷ 237887515 ∷ 1211977324 ∷ 1599170478 ∷ []) }
-    ∷ record { what = "t, of the prepared circuit, the wires and z"; is = numbers (quotient 2013265921 4 (pointF 2013265921 4 largestPrepared (publics largest) largestTranscript (largest .beta) (largest .gamma) (largest .alpha))); should = numbers (1739109928 ∷ 1878052840 ∷ 329032804 ∷ 1100539225 ∷ 1847986093 ∷ 1539179246 ∷ 1638934222 ∷ 121264089 ∷ 1961147648 ∷ []) }
+    ∷ record { what = "z"; is = numbers (zOf 2013265921 4 (constraints largest) (witness largest) (largest .beta) (largest .gamma)); should = numbers (977496526 ∷ 237887515 ∷ 1211977324 ∷ 1599170478 ∷ []) }
+    ∷ record { what = "t, of the prepared constraints, the wires and z"; is = numbers (quotient 2013265921 4 (pointF 2013265921 4 largestPrepared (publics largest) largestTranscript (largest .beta) (largest .gamma) (largest .alpha))); should = numbers (1739109928 ∷ 1878052840 ∷ 329032804 ∷ 1100539225 ∷ 1847986093 ∷ 1539179246 ∷ 1638934222 ∷ 121264089 ∷ 1961147648 ∷ []) }
     ∷ record { what = "point check, zeta 2"; is = atPoint (pointCheck largest largestPrepared largestTranscript 2); should = atPoint accept }
     ∷ record { what = "refused by 10: at position 3"; is = numbers (broken largestPosition); should = numbers (1 ∷ 2 ∷ 3 ∷ 2 ∷ []) }
     ∷ record { what = "refused by 10: row check, the last step"; is = rows (rowCheck largestPosition (1 ∷ 1607777443 ∷ [])); should = rows (fails stepIdentity 1) }

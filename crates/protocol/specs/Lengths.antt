@@ -6,7 +6,7 @@
 -- short-gate, short-step, short-start   of the three parts of F
 -- short-F                            F has at most 3a + b + 1 coefficients, for wires of a + 1 and z of b + 1
 -- interpolation-length               an interpolation has n coefficients
--- length-F                           F of a circuit has at most 3a + b + 1 coefficients, for wires of a + 1 and z of b + 1
+-- length-F                           F of constraints has at most 3a + b + 1 coefficients, for wires of a + 1 and z of b + 1
 -- length-F-rows                      at most 4n - 3, for wires and z of n
 --
 -- The prepared polynomials, L and the polynomial of the public inputs have n = r + 1 coefficients, and the wires no fewer.
@@ -87,7 +87,7 @@ module _ (p r a b : ℕ) (some : 1 ≤ a) (more : r ≤ a) (pre wire : ℕ → L
         (short-add (short-in _ (short-gate x hx) (omega arith)) (short-scale alpha (short-step beta gamma)))
         (short-scale (alpha * alpha) short-start)
 
--- F OF A CIRCUIT
+-- F OF CONSTRAINTS
 
 pub interpolation-length : (p n : ℕ) (v : ℕ → ℕ) → length (interpolation p n v) ≡ n
 unfolding interpolation

@@ -1,8 +1,8 @@
--- The pairs (beta, gamma) for which some z passes the row check, where the witness does not satisfy the circuit.
+-- The pairs (beta, gamma) for which some z passes the row check, where the witness does not satisfy the constraints.
 --
 -- product-N, product-D    the products of N(i) and of D(i) over the rows, as products over the positions
 -- Passing                 a pair of elements for which some row values of z pass
--- few-pairs               at most (3n - 1) × p pairs are such, where the witness does not satisfy the circuit
+-- few-pairs               at most (3n - 1) × p pairs are such, where the witness does not satisfy the constraints
 --
 -- Assumes nothing.
 use mathlib.Core.Path.{_≡_, refl, sym, ap, _∙_, subst}

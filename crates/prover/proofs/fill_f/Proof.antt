@@ -92,7 +92,7 @@ fill-requires c κs =
     let s = start (c .before .before .before .before .before .before .before .before .before .before .before .before .before .before) in
     record {
       points = record { admissible = s .pre .0 .admissible; points = c .before .before .before .before .before .before .before .before .before .before .before .before .domain-points .ensures .1 };
-      public-rows = record { admissible = s .pre .0 .admissible; elements = s .pre .0 .publics-below };
+      publics-lent = record { admissible = s .pre .0 .admissible; elements = s .pre .0 .publics-below };
       prepared-length = length-take-le _ _ (still-fit (c .before .before .before .before .before .before .before .before .before)) ∙ c .before .before .before .before .before .before .before .before .before .before .before .before .before .before .prepared-length .ensures;
       laid-length = s .pre .1;
       out-length = length-take-le _ _ (scratch-fit (c .before .before .before .before .before .before .before .before .before));

@@ -17,7 +17,7 @@ add-public-gate-requires : tie.Need-add-public-gate-requires
 add-public-gate-requires c κs =
     let s = c .before .before .before .before .before .before .before .before .before .before .pre in
     let A = s .points .admissible in (
-      s .public-rows,
+      s .publics-lent,
       record {
         modulus = omega (arith, field-prime _ (A .one-of-three) .two);
         few = rows-power _ _ (A .rows) .small;

@@ -15,17 +15,17 @@ use Rattle.witnesses.proofs.of_witness.Statement.{statement}
 use Rattle.witnesses.proofs.of_witness.Tie as tie
 
 -- the three reasons
-abbrev circuit : tie.Start → Constraints
-circuit s = lentConstraints (s .args .n) (s .args .selectors .now) (s .args .labels .now)
+abbrev constraints : tie.Start → Constraints
+constraints s = lentConstraints (s .args .n) (s .args .selectors .now) (s .args .labels .now)
 
 abbrev gates : tie.Start → Reason
-gates s = reasonAt 9 (brokenGate (s .args .p) (s .args .n) (circuit s) (lentPublic (s .args .publics .now)) (lentWitness (s .args .n) (s .args .witness .now))) (s .args .n)
+gates s = reasonAt 9 (brokenGate (s .args .p) (s .args .n) (constraints s) (lentPublic (s .args .publics .now)) (lentWitness (s .args .n) (s .args .witness .now))) (s .args .n)
 
 abbrev copies : tie.Start → Reason
-copies s = reasonAt 10 (brokenCopy (s .args .n) (circuit s) (lentWitness (s .args .n) (s .args .witness .now))) (3 * s .args .n)
+copies s = reasonAt 10 (brokenCopy (s .args .n) (constraints s) (lentWitness (s .args .n) (s .args .witness .now))) (3 * s .args .n)
 
 abbrev zeros : tie.Start → Reason
-zeros s = reasonAt 11 (zeroFactor (s .args .p) (s .args .n) (circuit s) (lentWitness (s .args .n) (s .args .witness .now)) (getD (s .args .challenges .now) 0 0) (getD (s .args .challenges .now) 1 0)) (s .args .n)
+zeros s = reasonAt 11 (zeroFactor (s .args .p) (s .args .n) (constraints s) (lentWitness (s .args .n) (s .args .witness .now)) (getD (s .args .challenges .now) 0 0) (getD (s .args .challenges .now) 1 0)) (s .args .n)
 
 -- the first is decided; and the second; what answers by the reasons past the first
 abbrev start : tie.After-decide-at → tie.Start

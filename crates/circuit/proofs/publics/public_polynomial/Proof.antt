@@ -18,8 +18,8 @@ powers-fit c =
 domain-points-requires : tie.Need-domain-points-requires
 domain-points-requires c κs = search needs
 
-public-rows-requires : tie.Need-public-rows-requires
-public-rows-requires c κs = search needs
+fill-publics-requires : tie.Need-fill-publics-requires
+fill-publics-requires c κs = search needs
 
 array-share-prefix-powers : tie.Need-array-share-prefix-powers
 array-share-prefix-powers c = powers-fit (c .before .before .before .before)
@@ -32,7 +32,7 @@ interpolate-in-place-requires c κs =
     let s = c .before .before .before .before .before .before .before .before .before .before .before in
     record {
       domain-lent = record { admissible = s .pre .0 .admissible; points = c .before .before .before .before .before .before .before .domain-points .ensures .1 };
-      elements = row-elements _ _ (s .args .publics .now) _ _ (c .before .before .before .before .before .public-rows .ensures) (s .pre .1 .0) (omega (arith, field-prime _ (s .pre .0 .admissible .one-of-three) .two)) (s .pre .0 .elements);
+      elements = row-elements _ _ (s .args .publics .now) _ _ (c .before .before .before .before .before .fill-publics .ensures) (s .pre .1 .0) (omega (arith, field-prime _ (s .pre .0 .admissible .one-of-three) .two)) (s .pre .0 .elements);
       spare = s .pre .1 .1;
     }
 
@@ -45,14 +45,14 @@ same-length-2 c = search needs
 returns : tie.Need-returns
 returns c =
     let s = c .before .before .before .before .before .before .before .before .before .before .before .before .before .before .before .before in
-    c .before .before .before .before .interpolate-in-place .ensures ∙ rows-interpolation (s .args .p) (s .args .n) (s .args .publics .now) _ _ (c .before .before .before .before .before .before .before .before .before .before .public-rows .ensures) (s .pre .1 .0)
+    c .before .before .before .before .interpolate-in-place .ensures ∙ rows-interpolation (s .args .p) (s .args .n) (s .args .publics .now) _ _ (c .before .before .before .before .before .before .before .before .before .before .fill-publics .ensures) (s .pre .1 .0)
 
 pub public-polynomial-spec : {M : Type 1} → statement M
 public-polynomial-spec =
     tie.close
     (tie.spec
     domain-points-requires
-    public-rows-requires
+    fill-publics-requires
     array-share-prefix-powers
     slice-aggregate-interpolate-in-place
     interpolate-in-place-requires

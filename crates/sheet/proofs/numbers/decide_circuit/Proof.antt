@@ -3,7 +3,6 @@ use mathlib.Core.Path.{_≡_, sym, ap, ap₂, _∙_}
 use mathlib.Core.List.{List, [], _∷_}
 use Prim.Native.Nat.{ℕ, _*_}
 use native.Mathlib.Omega.{arith}
-use lib.ListN.{length}
 use Rattle.algebra.specs.Lists.{tab}
 use Rattle.algebra.specs.Tables.{length-tab}
 use Rattle.field.specs.Reasons.{Reason, answerOf, reasonAt, firstAbove}

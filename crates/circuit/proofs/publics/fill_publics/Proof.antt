@@ -1,4 +1,4 @@
--- `circuit::publics::public_rows` meets its contract: after i turns the first i words are written. Assumes nothing.
+-- `circuit::publics::fill_publics` meets its contract: after i turns the first i words are written. Assumes nothing.
 use mathlib.Core.Path.{_≡_}
 use mathlib.Core.List.{_++_}
 use Prim.Native.Nat.{_-_, _≤_}
@@ -8,8 +8,8 @@ use Rattle.algebra.specs.Lists.{tab}
 use Rattle.algebra.specs.Tables.{wrote-none, wrote-more, wrote-all}
 use Rattle.circuit.specs.Circuit.{lentPublic}
 use borrow.Author.Needs.{needs}
-use Rattle.circuit.proofs.publics.public_rows.Statement.{statement}
-use Rattle.circuit.proofs.publics.public_rows.Tie as tie
+use Rattle.circuit.proofs.publics.fill_publics.Statement.{statement}
+use Rattle.circuit.proofs.publics.fill_publics.Tie as tie
 
 abbrev Inv-loop : tie.InvT-loop
 Inv-loop publics out₀ i₀ out i = (i ≤ length out₀) × (out ≡ tab (lentPublic publics) i ++ drop i out₀) × (length out ≡ length out₀)
@@ -44,8 +44,8 @@ same-length c = search needs
 returns : tie.Need-returns Inv-loop μ-loop
 returns c = wrote-all _ _ _ _ (omega arith) (c .before .loop .inv .0) (c .before .loop .inv .1)
 
-pub public-rows-spec : {M : Type 1} → statement M
-public-rows-spec =
+pub fill-publics-spec : {M : Type 1} → statement M
+fill-publics-spec =
     tie.close
     (tie.spec
     Inv-loop
