@@ -7,6 +7,7 @@
 -- first-le        it is at most n
 -- none-of         where it is n, none passes
 -- first-same      what is first is so once
+-- first-ext       tests that agree below n have one first number
 -- both-false, one-true   a test that is the disjunction of two: it fails where both fail; where it passes, one passes
 -- first-stop, first-skip, first-end   the loop: the test passes, it fails, there is nothing left
 --
@@ -77,6 +78,18 @@ first-same {test} {n} {r} {s} f g = go (decLt r s) (decLt s r)
     go (yes h) k = absurd (true≢false (sym (f .hit (omega (arith, g .high))) ∙ g .none r (omega arith) h))
     go (no h) (yes k) = absurd (true≢false (sym (g .hit (omega (arith, f .high))) ∙ f .none s (omega arith) k))
     go (no h) (no k) = omega arith
+
+pub first-ext : (test other : ℕ → Bool) (n : ℕ) → ((k : ℕ) → k < n → test k ≡ other k) → first test 0 n ≡ first other 0 n
+first-ext test other n h =
+    let f = first-is test 0 n in
+    let g = first-is other 0 n in
+    first-same f
+    record {
+      low = g .low;
+      high = g .high;
+      none = λ j l k. h j (omega (arith, g .high)) ∙ g .none j l k;
+      hit = λ l. h (first other 0 n) (omega arith) ∙ g .hit l;
+    }
 
 -- A TEST THAT IS THE DISJUNCTION OF TWO
 

@@ -9,6 +9,7 @@ pub mod Positions
 pub mod Parts
 pub mod Witness
 pub mod Permutation
+pub mod Selectors
 pub mod PublicBound
 pub mod RightlyLent
 pub mod Worked

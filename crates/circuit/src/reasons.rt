@@ -23,7 +23,7 @@ fn decide_public_rows(n: u32, l: u32, selectors: &[u32]) -> Answer
     ensures { λ r. ⌜ ((labels : List ℕ) → r ≡ answerOf (badPublicRow (lentConstraints n (now (selectors .entry)) labels) l ∷ [])) ⌝ }
 {
     let count = l as usize;
-    let row = super::selectors::unbound_row(n as usize, count, selectors);
+    let row = super::selectors::unbound_row(selectors, 0, 1, n as usize, count);
     field::decide_at(14, row, count)
 }
 

@@ -1,22 +1,12 @@
-// The selectors, read in one place; and the public rows among them.
+// Public rows among rows of selectors, which are lent column after column, or stand line after line in a table.
 ghost use mathlib.Core.Path.{_≡_};
-ghost use mathlib.Core.List.{List};
-ghost use Prim.Native.Nat.{ℕ, _<_, _≤_};
-ghost use lib.ListN.{length, getD};
-ghost use Rattle.circuit.specs.Circuit.{position, isPublic, isPublicRow, lentConstraints};
-ghost use Rattle.circuit.specs.Buffers.{selectorsLength};
-ghost use Rattle.circuit.specs.Reasons.{unboundRow};
-
-// Selector s of row i, of n rows: the selectors are lent column after column.
-pub fn selector_of(n: usize, selectors: &[u32], s: usize, i: usize) -> u32
-    requires { ⌜ (n ≤ 1024) × (s < 5) × (i < n) × (length (now selectors) ≡ selectorsLength n) ⌝ }
-    ensures { λ r. ⌜ r ≡ getD (now (selectors .entry)) (position n s i) 0 ⌝ }
-{
-    selectors[s * n + i]
-}
+ghost use Prim.Native.Nat.{_+_, _*_, _<_, _≤_};
+ghost use lib.ListN.{length};
+ghost use Rattle.circuit.specs.Circuit.{isPublic};
+ghost use Rattle.circuit.specs.Selectors.{isPublicAt, unboundIn, Spaced};
 
 // Whether these are the selectors of a public row: qL is 1, and the others are 0.
-pub fn is_public(ql: u32, qr: u32, qo: u32, qm: u32, qc: u32) -> bool
+fn is_public(ql: u32, qr: u32, qo: u32, qm: u32, qc: u32) -> bool
     ensures { λ r. ⌜ r ≡ isPublic ql qr qo qm qc ⌝ }
 {
     if ql != 1 {
@@ -34,30 +24,33 @@ pub fn is_public(ql: u32, qr: u32, qo: u32, qm: u32, qc: u32) -> bool
     qc == 0
 }
 
-// Whether row i, of n rows, is a public row. The labels play no part in it.
-fn is_public_row(n: usize, selectors: &[u32], i: usize) -> bool
-    requires { ⌜ (n ≤ 1024) × (i < n) × (length (now selectors) ≡ selectorsLength n) ⌝ }
-    ensures { λ r. ⌜ ((labels : List ℕ) → r ≡ isPublicRow (lentConstraints n (now (selectors .entry)) labels) i) ⌝ }
+// Whether the five words from `at` on, which stand `apart` from one another, are the selectors of a public row.
+fn is_public_at(words: &[u32], apart: usize, at: usize) -> bool
+    requires { ⌜ (length (now words) ≤ 65536) × (at + 4 * apart < length (now words)) ⌝ }
+    ensures { λ r. ⌜ r ≡ isPublicAt (now (words .entry)) apart at ⌝ }
 {
     is_public(
-        selector_of(n, selectors, 0, i),
-        selector_of(n, selectors, 1, i),
-        selector_of(n, selectors, 2, i),
-        selector_of(n, selectors, 3, i),
-        selector_of(n, selectors, 4, i),
+        words[at],
+        words[at + apart],
+        words[at + 2 * apart],
+        words[at + 3 * apart],
+        words[at + 4 * apart],
     )
 }
 
-// The lowest row below l, of n rows, that is no public row; l where each is one.
-pub fn unbound_row(n: usize, l: usize, selectors: &[u32]) -> usize
-    requires { ⌜ (n ≤ 1024) × (l ≤ n) × (length (now selectors) ≡ selectorsLength n) ⌝ }
-    ensures { λ r. ⌜ ((labels : List ℕ) → r ≡ unboundRow (lentConstraints n (now (selectors .entry)) labels) l) ⌝ }
+// The lowest row below l that is no public row; l where each is one. The selectors of row i stand from word start + i * step on, `apart` from one
+// another.
+pub fn unbound_row(words: &[u32], start: usize, step: usize, apart: usize, l: usize) -> usize
+    requires { ⌜ Spaced (now words) start step apart l ⌝ }
+    ensures { λ r. ⌜ r ≡ unboundIn (now (words .entry)) start step apart l ⌝ }
 {
     let mut i = 0;
+    let mut at = start;
     while i < l {
-        if !is_public_row(n, selectors, i) {
+        if !is_public_at(words, apart, at) {
             return i;
         }
+        at += step;
         i += 1;
     }
     i

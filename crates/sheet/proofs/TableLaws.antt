@@ -3,17 +3,24 @@
 -- selectors-same, labels-same, witness-same, publics-same, challenges-same   number k of each buffer
 -- elements-same, selectors-list-same, labels-list-same   the elements end to end, the selectors and the labels
 -- elements-long   how many elements the table has
+-- selector-word   selector s of row i is word s of line i + 1
+-- unbound-table   so the rows that are looked at for 14 are those of its lines
 --
 -- Assumes nothing.
-use mathlib.Core.Path.{_≡_, ap₂, _∙_}
+use mathlib.Core.Path.{_≡_, sym, ap, ap₂, _∙_}
 use mathlib.Core.List.{List, _++_}
-use Prim.Native.Nat.{ℕ, suc, _+_, _*_, _/_, _%_, _<_}
+use Prim.Native.Nat.{ℕ, suc, _+_, _*_, _/_, _%_, _≤_, _<_}
 use native.Mathlib.Nat.{mod-lt, div-lt-iff-lt-mul, mod-eq-of-lt, div-eq-of-lt, mod-one, div-one}
 use native.Mathlib.Omega.{arith}
 use lib.ListN.{length, getD, length-append}
+use Rattle.algebra.specs.Ends.{run-room}
 use Rattle.algebra.specs.Lists.{tab}
-use Rattle.algebra.specs.Tables.{length-tab, tab-ext}
+use Rattle.algebra.specs.Tables.{length-tab, getD-tab, tab-ext}
+use Rattle.circuit.specs.Circuit.{position, isPublicRow, lentConstraints}
 use Rattle.circuit.specs.Buffers.{selectorsLength, labelsLength, witnessLength}
+use Rattle.circuit.specs.Positions.{position-column, position-row}
+use Rattle.circuit.specs.Reasons.{unboundRow}
+use Rattle.circuit.specs.Selectors.{isPublicAt, unboundIn, unbound-same}
 use Rattle.sheet.specs.Sheet.{fieldsDue, linesDue, numberOf, onSelectors, onLabels, onWitness, onPublics, onChallenges, sheetElements}
 use Rattle.sheet.specs.Table.{Full, Held, selectorsIn, labelsIn, witnessIn, publicsIn, challengesIn, tableElements}
 use Rattle.sheet.proofs.LineLaws.{due-circuit, due-witness, due-publics, due-challenges}
@@ -76,3 +83,29 @@ module _ (s : List ℕ) (n l : ℕ) (t : List ℕ) (full : Full n l t) (held : H
 pub elements-long : (n l : ℕ) (t : List ℕ) → length (tableElements n l t) ≡ selectorsLength n + witnessLength n + l + 4
 elements-long n l t =
     simp (length-append, length-tab) (omega arith)
+
+module _ (n : ℕ) (t : List ℕ) where
+  selector-word : (s i : ℕ) → s < 5 → i < n → getD t (8 * suc i + s) 0 ≡ getD (tab (selectorsIn t n) (selectorsLength n)) (position n s i) 0
+  selector-word s i h k =
+      let place : 8 * suc i + s ≡ 8 * (1 + position n s i % n) + (0 + position n s i / n) =
+      omega (arith, position-row n s i k, position-column n s i k) in
+      ap (λ (m : ℕ). getD t m 0) place
+      ∙ sym (getD-tab (selectorsIn t n) (selectorsLength n) (position n s i) (omega (arith, run-room s 5 n h)))
+
+  pub unbound-table : (l : ℕ) (labels : List ℕ) → l ≤ n
+      → unboundIn t 8 8 1 l ≡ unboundRow (lentConstraints n (tab (selectorsIn t n) (selectorsLength n)) labels) l
+  unbound-table l labels few = unbound-same t 8 8 1 l (lentConstraints n (tab (selectorsIn t n) (selectorsLength n)) labels) row
+    where
+      at : (s i k : ℕ) → s < 5 → i < l → k ≡ 8 * suc i + s → getD t k 0 ≡ getD (tab (selectorsIn t n) (selectorsLength n)) (position n s i) 0
+      at s i k h g e = ap (λ (m : ℕ). getD t m 0) e ∙ selector-word s i h (omega arith)
+
+      row : (i : ℕ) → i < l
+          → isPublicAt t 1 (8 + i * 8) ≡ isPublicRow (lentConstraints n (tab (selectorsIn t n) (selectorsLength n)) labels) i
+      row i h =
+          rw (
+            at 0 i (8 + i * 8) (omega arith) h (omega arith),
+            at 1 i (8 + i * 8 + 1) (omega arith) h (omega arith),
+            at 2 i (8 + i * 8 + 2 * 1) (omega arith) h (omega arith),
+            at 3 i (8 + i * 8 + 3 * 1) (omega arith) h (omega arith),
+            at 4 i (8 + i * 8 + 4 * 1) (omega arith) h (omega arith),
+          )

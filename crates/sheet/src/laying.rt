@@ -11,7 +11,7 @@ ghost use Rattle.sheet.specs.Sheet.{sheetRows, padded};
 ghost use Rattle.sheet.specs.Table.{inTable, selectorsIn, labelsIn, witnessIn, publicsIn, challengesIn, Fits, Full, Room, Laid};
 
 // Number k of a block of `count` numbers; 0 from there on.
-pub fn word(table: &[u32], width: usize, row: usize, col: usize, count: usize, k: usize) -> u32
+fn word(table: &[u32], width: usize, row: usize, col: usize, count: usize, k: usize) -> u32
     requires { ⌜ Fits (now table) width row col count ⌝ }
     ensures { λ r. ⌜ r ≡ cond (ltb k count) (inTable (now (table .entry)) width row col k) 0 ⌝ }
 {

@@ -13,6 +13,7 @@ use Rattle.circuit.specs.Reasons.{badLabel, badPublicRow}
 use Rattle.sheet.specs.Table.{selectorsIn, labelsIn}
 use borrow.Author.Needs.{needs}
 use Rattle.sheet.proofs.BlockLaws.{labels-fit}
+use Rattle.sheet.proofs.TableLaws.{unbound-table}
 use Rattle.sheet.proofs.numbers.decide_circuit.Statement.{statement}
 use Rattle.sheet.proofs.numbers.decide_circuit.Tie as tie
 
@@ -57,7 +58,9 @@ returns c =
     refused-first (first s) (second s) (omega arith, tt) _ (decided (c .before)) (c .if1 .taken)
 
 unbound-row-requires : tie.Need-unbound-row-requires
-unbound-row-requires c κs = search needs
+unbound-row-requires c κs =
+    let full = c .before .before .before .before .before .pre in
+    record { short = omega (arith, full .long); near = omega arith; room = λ i h. omega (arith, full .few, full .publics, full .long) }
 
 decide-at-requires-2 : tie.Need-decide-at-requires-2
 decide-at-requires-2 c κs = search needs
@@ -66,7 +69,7 @@ returns-2 : tie.Need-returns-2
 returns-2 c =
     let s = c .before .before .before .before .before .before .before in
     refused-later (first s) (second s) (omega arith, tt) _ _ (decided (c .before .before .before)) (c .before .before .if1 .left)
-    (c .decide-at2 .ensures ∙ ap (λ (at : ℕ). answerOf (reasonAt 14 at (s .args .l) ∷ [])) (c .before .unbound-row .ensures (labelsOf s)))
+    (c .decide-at2 .ensures ∙ ap (λ (at : ℕ). answerOf (reasonAt 14 at (s .args .l) ∷ [])) (c .before .unbound-row .ensures ∙ unbound-table (s .args .n) (s .args .table .now) (s .args .l) (labelsOf s) (s .pre .publics)))
 
 pub decide-circuit-spec : {M : Type 1} → statement M
 decide-circuit-spec =
