@@ -5,7 +5,8 @@
 -- badLabel n labels         8: a label is 3n or more; detail: the lowest such position
 -- unboundRow C l            the lowest row below l that is no public row; l where each is one
 -- badPublicRow C l          14: a row below l is no public row; detail: the lowest such row
--- numberReasons p n l xs selectors labels   7, 8 and 14, for the elements end to end, the selectors and the labels
+-- circuitReasons n l selectors labels       8 and 14
+-- numberReasons p n l xs selectors labels   7, for the elements end to end, then these
 -- permutationDue, permutationReasons   of `permutation`
 -- prepareDue, prepareReasons           of `prepare`
 -- rowsDue, rowsReasons                 of `check_rows`
@@ -32,9 +33,11 @@ unboundRow C l = first (λ i. not (isPublicRow C i)) 0 l
 abbrev pub badPublicRow : Constraints → ℕ → Reason
 badPublicRow C l = reasonAt 14 (unboundRow C l) l
 
+abbrev pub circuitReasons : (n l : ℕ) (selectors labels : List ℕ) → List Reason
+circuitReasons n l selectors labels = badLabel n labels ∷ badPublicRow (lentConstraints n selectors labels) l ∷ []
+
 abbrev pub numberReasons : (p n l : ℕ) (elements selectors labels : List ℕ) → List Reason
-numberReasons p n l elements selectors labels =
-    badElement p elements ∷ badLabel n labels ∷ badPublicRow (lentConstraints n selectors labels) l ∷ []
+numberReasons p n l elements selectors labels = badElement p elements ∷ circuitReasons n l selectors labels
 
 -- `permutation`: labels, positions
 abbrev pub permutationDue : ℕ → List ℕ

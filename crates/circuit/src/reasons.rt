@@ -6,7 +6,7 @@ ghost use lib.ListN.{length};
 ghost use Rattle.field.specs.Reasons.{answerOf, reasonAt};
 ghost use Rattle.circuit.specs.Circuit.{lentConstraints};
 ghost use Rattle.circuit.specs.Buffers.{selectorsLength};
-ghost use Rattle.circuit.specs.Reasons.{badLabel, badPublicRow};
+ghost use Rattle.circuit.specs.Reasons.{badLabel, badPublicRow, circuitReasons};
 use field::Answer;
 
 // The reason of the labels, 8.
@@ -30,7 +30,7 @@ fn decide_public_rows(n: u32, l: u32, selectors: &[u32]) -> Answer
 // The reasons of the circuit, 8 and 14.
 fn decide_circuit(n: u32, l: u32, selectors: &[u32], labels: &[u32]) -> Answer
     requires { ⌜ (n ≤ 1024) × (l ≤ n) × (length (now selectors) ≡ selectorsLength n) × (length (now labels) ≤ 65536) ⌝ }
-    ensures { λ r. ⌜ r ≡ answerOf (badLabel n (now (labels .entry)) ∷ badPublicRow (lentConstraints n (now (selectors .entry)) (now (labels .entry))) l ∷ []) ⌝ }
+    ensures { λ r. ⌜ r ≡ answerOf (circuitReasons n l (now (selectors .entry)) (now (labels .entry))) ⌝ }
 {
     let first = decide_labels(n, labels);
     let number = first.number;
@@ -52,7 +52,7 @@ pub fn decide_numbers(
 ) -> Answer
     requires { ⌜ (n ≤ 1024) × (l ≤ n) × (count ≤ 65536) ⌝ }
     requires { ⌜ (length (now selectors) ≡ selectorsLength n) × (length (now labels) ≤ 65536) ⌝ }
-    ensures { λ r. ⌜ r ≡ answerOf (reasonAt 7 at count ∷ badLabel n (now (labels .entry)) ∷ badPublicRow (lentConstraints n (now (selectors .entry)) (now (labels .entry))) l ∷ []) ⌝ }
+    ensures { λ r. ⌜ r ≡ answerOf (reasonAt 7 at count ∷ circuitReasons n l (now (selectors .entry)) (now (labels .entry))) ⌝ }
 {
     let elements = field::decide_at(7, at, count);
     let number = elements.number;

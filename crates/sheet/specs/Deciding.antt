@@ -21,8 +21,7 @@ use Rattle.field.specs.Lent.{Shape, shape-numbers, shaped, lengths-same}
 use Rattle.field.specs.Reasons.{Reason, answerOf, isAccepted, shapeReasons, badLengths, badElement}
 use Rattle.field.specs.ReasonLaws.{none-applies, both-none}
 use Rattle.circuit.specs.Buffers.{selectorsLength, labelsLength}
-use Rattle.circuit.specs.Circuit.{lentConstraints}
-use Rattle.circuit.specs.Reasons.{badLabel, badPublicRow}
+use Rattle.circuit.specs.Reasons.{circuitReasons}
 use Rattle.circuit.specs.RightlyLent.{numbers-of}
 use Rattle.text.specs.Text.{fieldAt}
 use Rattle.sheet.specs.declared.SheetAnswer.{SheetAnswer}
@@ -30,9 +29,7 @@ use Rattle.sheet.specs.Sheet.{sheetRows, linesDue, sheetP, sheetN, sheet
 use Rattle.sheet.specs.Table.{Held, selectorsIn, labelsIn, tableElements}
 
 abbrev pub tableCircuit : ℕ → ℕ → List ℕ → List Reason
-tableCircuit n l t =
-    badLabel n (tab (labelsIn t n) (labelsLength n))
-    ∷ badPublicRow (lentConstraints n (tab (selectorsIn t n) (selectorsLength n)) (tab (labelsIn t n) (labelsLength n))) l ∷ []
+tableCircuit n l t = circuitReasons n l (tab (selectorsIn t n) (selectorsLength n)) (tab (labelsIn t n) (labelsLength n))
 
 abbrev pub tableNumbers : ℕ → ℕ → ℕ → List ℕ → List Reason
 tableNumbers p n l t = badElement p (tableElements n l t) ∷ tableCircuit n l t

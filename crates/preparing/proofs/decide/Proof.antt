@@ -8,8 +8,7 @@ use borrow.Author.Needs.{needs}
 use Rattle.field.specs.Primes.{rows-power}
 use Rattle.field.specs.Reasons.{Reason, answerOf, reasonAt}
 use Rattle.field.specs.Lent.{Lent, lent-refused, lent-later, lent-known}
-use Rattle.circuit.specs.Circuit.{lentConstraints}
-use Rattle.circuit.specs.Reasons.{badLabel, badPublicRow, numberReasons, prepareDue}
+use Rattle.circuit.specs.Reasons.{circuitReasons, numberReasons, prepareDue}
 use Rattle.preparing.proofs.decide.Statement.{statement}
 use Rattle.preparing.proofs.decide.Tie as tie
 
@@ -63,7 +62,7 @@ returns-2 c =
     let s = start d in
     lent-later (s .args .p) (s .args .n) (s .args .l) (long s) (prepareDue (s .args .n)) (rest s) (d .before .before .before .prepare .ensures) (d .decide-lent .ensures) (c .before .before .if1 .left)
     (c .decide-numbers .ensures
-    ∙ ap (λ (at : ℕ). answerOf (reasonAt 7 at (length (s .args .selectors .now)) ∷ badLabel (s .args .n) (s .args .labels .now) ∷ badPublicRow (lentConstraints (s .args .n) (s .args .selectors .now) (s .args .labels .now)) (s .args .l) ∷ [])) (c .before .first-above .ensures))
+    ∙ ap (λ (at : ℕ). answerOf (reasonAt 7 at (length (s .args .selectors .now)) ∷ circuitReasons (s .args .n) (s .args .l) (s .args .selectors .now) (s .args .labels .now))) (c .before .first-above .ensures))
 
 pub decide-spec : {M : Type 1} → statement M
 decide-spec =

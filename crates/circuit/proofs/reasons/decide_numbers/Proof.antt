@@ -3,8 +3,7 @@ use mathlib.Core.List.{List, [], _∷_}
 use native.Mathlib.Omega.{arith}
 use Rattle.field.specs.Reasons.{Reason, reasonAt}
 use Rattle.field.specs.ReasonLaws.{refused-first, refused-later}
-use Rattle.circuit.specs.Circuit.{lentConstraints}
-use Rattle.circuit.specs.Reasons.{badLabel, badPublicRow}
+use Rattle.circuit.specs.Reasons.{circuitReasons}
 use borrow.Author.Needs.{needs}
 use Rattle.circuit.proofs.reasons.decide_numbers.Statement.{statement}
 use Rattle.circuit.proofs.reasons.decide_numbers.Tie as tie
@@ -14,9 +13,7 @@ abbrev first : tie.Start → List Reason
 first s = reasonAt 7 (s .args .at) (s .args .count) ∷ []
 
 abbrev second : tie.Start → List Reason
-second s =
-    badLabel (s .args .n) (s .args .labels .now)
-    ∷ badPublicRow (lentConstraints (s .args .n) (s .args .selectors .now) (s .args .labels .now)) (s .args .l) ∷ []
+second s = circuitReasons (s .args .n) (s .args .l) (s .args .selectors .now) (s .args .labels .now)
 
 decide-at-requires : tie.Need-decide-at-requires
 decide-at-requires c κs = search needs

@@ -10,8 +10,7 @@ use Rattle.field.specs.Primes.{rows-power}
 use Rattle.field.specs.Reasons.{Reason, answerOf, reasonAt, firstAbove}
 use Rattle.field.specs.ReasonLaws.{further}
 use Rattle.circuit.specs.Buffers.{selectorsLength, labelsLength, witnessLength}
-use Rattle.circuit.specs.Circuit.{lentConstraints}
-use Rattle.circuit.specs.Reasons.{rowsDue, numberReasons, badLabel, badPublicRow}
+use Rattle.circuit.specs.Reasons.{rowsDue, circuitReasons, numberReasons}
 use Rattle.rowcheck.proofs.reasons.decide.Statement.{statement}
 use Rattle.rowcheck.proofs.reasons.decide.Tie as tie
 
@@ -103,7 +102,7 @@ returns-2 c =
     ∙ ap (firstAbove (s .args .p)) (simp append-assoc) in
     lent-later (s .args .p) (s .args .n) (s .args .l) (long s) (rowsDue (s .args .n) (s .args .l)) (rest s) (d .before .before .before .rows .ensures) (d .decide-lent .ensures) (c .before .before .before .if1 .left)
     (c .decide-numbers .ensures
-    ∙ ap₂ (λ (at count : ℕ). answerOf (reasonAt 7 at count ∷ badLabel (s .args .n) (s .args .labels .now) ∷ badPublicRow (lentConstraints (s .args .n) (s .args .selectors .now) (s .args .labels .now)) (s .args .l) ∷ [])) place (ap (λ (k : ℕ). k + length (s .args .challenges .now)) (long-four s) ∙ long-five s))
+    ∙ ap₂ (λ (at count : ℕ). answerOf (reasonAt 7 at count ∷ circuitReasons (s .args .n) (s .args .l) (s .args .selectors .now) (s .args .labels .now))) place (ap (λ (k : ℕ). k + length (s .args .challenges .now)) (long-four s) ∙ long-five s))
 
 pub decide-spec : {M : Type 1} → statement M
 decide-spec =

@@ -9,8 +9,7 @@ use Rattle.field.specs.Lent.{lent-refused, lent-later, lent-known}
 use Rattle.field.specs.Primes.{rows-power}
 use Rattle.field.specs.Reasons.{Reason, answerOf, reasonAt}
 use Rattle.circuit.specs.Buffers.{selectorsLength, labelsLength, witnessLength}
-use Rattle.circuit.specs.Circuit.{lentConstraints}
-use Rattle.circuit.specs.Reasons.{proveDue, numberReasons, badLabel, badPublicRow}
+use Rattle.circuit.specs.Reasons.{proveDue, circuitReasons, numberReasons}
 use Rattle.witnesses.proofs.reasons.of_buffers.Statement.{statement}
 use Rattle.witnesses.proofs.reasons.of_buffers.Tie as tie
 
@@ -85,7 +84,7 @@ returns-2 c =
     let s = start d in
     lent-later (s .args .p) (s .args .n) (s .args .l) (long s) (proveDue (s .args .n) (s .args .l)) (rest s) (d .before .before .before .prove .ensures) (d .decide-lent .ensures) (c .before .before .if1 .left)
     (c .decide-numbers .ensures
-    ∙ ap₂ (λ (at count : ℕ). answerOf (reasonAt 7 at count ∷ badLabel (s .args .n) (s .args .labels .now) ∷ badPublicRow (lentConstraints (s .args .n) (s .args .selectors .now) (s .args .labels .now)) (s .args .l) ∷ [])) (c .before .first-of-four .ensures) (count s))
+    ∙ ap₂ (λ (at count : ℕ). answerOf (reasonAt 7 at count ∷ circuitReasons (s .args .n) (s .args .l) (s .args .selectors .now) (s .args .labels .now))) (c .before .first-of-four .ensures) (count s))
 
 pub of-buffers-spec : {M : Type 1} → statement M
 of-buffers-spec =
