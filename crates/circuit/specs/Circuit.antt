@@ -4,8 +4,8 @@
 -- Constraints               the selectors of a row and the label of a position (001: the constraint system)
 -- isPublic qL qR qO qM qC   these are the selectors of a public row: qL is 1, the others are 0, so that its gate is a - x
 -- isPublicRow C i           those of row i are
--- Circuit p n l C           C is a circuit of n rows with l public inputs: the selectors of a row are elements, the label of a position is below 3n,
---                           and the rows below l are public rows
+-- Circuit p n l C           C is a circuit of n rows with l public inputs: l is at most n, the selectors of a row are elements, the label of a position
+--                           is below 3n, and the rows below l are public rows
 -- lentConstraints n s l     the constraints in lent selectors and labels, column after column
 -- lentWitness n w k         the wire value of position k, in a lent witness (document 01: the contents), which is lent column after column
 -- laidWitness n v           the wire values v of the 3n positions, as they are lent

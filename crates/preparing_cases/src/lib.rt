@@ -108,98 +108,36 @@ fn refused() {
     two_rows(b"label 6", 17, 2, &selectors, &[0, 2, 1, 6, 2, 9]);
 }
 
-// The worked sheet with row 0 made a public row: its selectors, and the five of row 0 wrong in turn.
+// Two rows over 17 and l public inputs.
+fn over_17(label: &[u8], l: u32, selectors: &[u32], labels: &[u32]) {
+    public(label, 17, 2, l, selectors, labels);
+}
+
+// The worked sheet with row 0 made a public row, but for one selector.
+fn unbound(label: &[u8], place: usize, element: u32) {
+    let mut selectors = [1, 1, 0, 1, 0, 16, 0, 0, 0, 0];
+    buffers::put(&mut selectors, place, element);
+    over_17(label, 1, &selectors, &[0, 2, 1, 2, 2, 3]);
+}
+
+// Reason 14, and those next to it.
 fn public_rows() {
     let labels = [0, 2, 1, 2, 2, 3];
     let large = [0, 2, 1, 2, 2, 6];
-    public(
-        b"row 0 public, l is 1",
-        17,
-        2,
-        1,
-        &[1, 1, 0, 1, 0, 16, 0, 0, 0, 0],
-        &labels,
-    );
-    public(
-        b"both rows public, l is n",
-        17,
-        2,
-        2,
-        &[1, 1, 0, 0, 0, 0, 0, 0, 0, 0],
-        &labels,
-    );
-    public(
-        b"qL is 0",
-        17,
-        2,
-        1,
-        &[0, 1, 0, 1, 0, 16, 0, 0, 0, 0],
-        &labels,
-    );
-    public(
-        b"qR is 1",
-        17,
-        2,
-        1,
-        &[1, 1, 1, 1, 0, 16, 0, 0, 0, 0],
-        &labels,
-    );
-    public(
-        b"qO is 16",
-        17,
-        2,
-        1,
-        &[1, 1, 0, 1, 16, 16, 0, 0, 0, 0],
-        &labels,
-    );
-    public(
-        b"qM is 1",
-        17,
-        2,
-        1,
-        &[1, 1, 0, 1, 0, 16, 1, 0, 0, 0],
-        &labels,
-    );
-    public(
-        b"qC is 1",
-        17,
-        2,
-        1,
-        &[1, 1, 0, 1, 0, 16, 0, 0, 1, 0],
-        &labels,
-    );
-    public(
-        b"row 1 is no public row",
-        17,
-        2,
-        2,
-        &[1, 1, 0, 1, 0, 16, 0, 0, 0, 0],
-        &labels,
-    );
-    public(
-        b"neither is a public row",
-        17,
-        2,
-        2,
-        &[0, 1, 0, 1, 16, 16, 1, 0, 0, 0],
-        &labels,
-    );
-    public(
-        b"8 before 14",
-        17,
-        2,
-        1,
-        &[0, 1, 0, 1, 16, 16, 1, 0, 0, 0],
-        &large,
-    );
-    public(
-        b"l above n",
-        17,
-        2,
-        3,
-        &[17, 1, 0, 0, 0, 0, 0, 0, 0],
-        &labels,
-    );
+    let none = [0, 1, 0, 1, 16, 16, 1, 0, 0, 0];
+    let one = [1, 1, 0, 1, 0, 16, 0, 0, 0, 0];
+    let both = [1, 1, 0, 0, 0, 0, 0, 0, 0, 0];
+    over_17(b"row 0 public, l is 1", 1, &one, &labels);
+    over_17(b"both rows public, l is n", 2, &both, &labels);
+    unbound(b"qL is 0", 0, 0);
+    unbound(b"qR is 1", 2, 1);
+    unbound(b"qO is 16", 4, 16);
+    unbound(b"qM is 1", 6, 1);
+    unbound(b"qC is 1", 8, 1);
+    over_17(b"row 1 is no public row", 2, &one, &labels);
+    over_17(b"neither is a public row", 2, &none, &labels);
+    over_17(b"8 before 14", 1, &none, &large);
+    over_17(b"l above n", 3, &[17, 1, 0, 0, 0, 0, 0, 0, 0], &labels);
 }
 
 fn lengths() {

@@ -262,7 +262,7 @@ fn first_numbers() {
     );
 }
 
-// The same: the words.
+// The same: the elements and labels.
 fn first_words() {
     line(
         b"7 of a content before 7 of a challenge",
@@ -278,6 +278,10 @@ fn first_words() {
             .with(LABELS, 0, 6)
             .gives(7, 18),
     );
+}
+
+// The same: 14 and its neighbours.
+fn first_circuits() {
     line(
         b"8 before 14",
         Case::sheet().publics(1).with(LABELS, 5, 6).gives(8, 5),
@@ -297,6 +301,10 @@ fn first_words() {
             .with(CHALLENGES, 1, 14)
             .gives(14, 0),
     );
+}
+
+// The same: the reasons that look at the contents.
+fn first_contents() {
     line(
         b"8 before 9",
         Case::sheet()
@@ -336,4 +344,6 @@ pub fn run() {
     denominators();
     first_numbers();
     first_words();
+    first_circuits();
+    first_contents();
 }

@@ -15,6 +15,7 @@ use Rattle.field.specs.Fields.{generator, root, point, multiplier, tag}
 use Rattle.transform.specs.Transform.{evaluation, interpolation}
 use Rattle.transform.specs.Passes.{strided, oddWord, passed}
 use Rattle.circuit.specs.Circuit.{Constraints, lentConstraints, lentPublic, lentWitness, permutation, gate}
+use Rattle.circuit.specs.Worked.{publicSelectors, labels}
 use Rattle.protocol.specs.Protocol.{wiredTag, rowN, rowD, rowZ, polyN, polyD, polyL, gatePart, stepPart, startPart, polyF, quotient, preparedPoly, prepared, wiresOf, zOf, proved}
 use Rattle.protocol.specs.Worked.{circuit, publics, witness, Case, number, numbers, _&_}
 use Rattle.opening.specs.Opening.{polynomialOf, less, named, evaluationsOf, mixtureOf}
@@ -66,7 +67,7 @@ twice = passed 17 points 1 2 once
 
 -- the sheet with row 0 made a public row, and the public input 2
 abbrev bound : Constraints
-bound = lentConstraints 2 (1 ∷ 1 ∷ 0 ∷ 1 ∷ 0 ∷ 16 ∷ 0 ∷ 0 ∷ 0 ∷ 0 ∷ []) (0 ∷ 2 ∷ 1 ∷ 2 ∷ 2 ∷ 3 ∷ [])
+bound = lentConstraints 2 publicSelectors labels
 
 abbrev two : ℕ → ℕ
 two = lentPublic (2 ∷ [])

@@ -1,4 +1,5 @@
 // The row check on the worked sheet and at its edges. A line has the label, p, n and l, the answer, and the verdict with its row.
+use case_tools::buffers;
 use case_tools::print;
 use rowcheck::Identity;
 use rowcheck::Verdict;
@@ -90,6 +91,13 @@ fn bound(label: &[u8], l: u32, selectors: &[u32], labels: &[u32], publics: &[u32
     );
 }
 
+// The worked sheet with row 0 made a public row, but for one selector.
+fn unbound(label: &[u8], place: usize, element: u32) {
+    let mut selectors = [1, 1, 0, 1, 0, 16, 0, 0, 0, 0];
+    buffers::put(&mut selectors, place, element);
+    bound(label, 1, &selectors, &[0, 2, 1, 2, 2, 3], &[2]);
+}
+
 fn verdicts() {
     let contents = [2, 6, 3, 6, 6, 12];
     let others = [2, 5, 3, 7, 6, 12];
@@ -111,41 +119,11 @@ fn public_rows() {
     bound(b"both rows public, l is n", 2, &both, &labels, &[2, 6]);
     bound(b"a public input other than a", 1, &one, &labels, &[1]);
     bound(b"the second other than a", 2, &both, &labels, &[2, 5]);
-    bound(
-        b"qL is 0",
-        1,
-        &[0, 1, 0, 1, 0, 16, 0, 0, 0, 0],
-        &labels,
-        &[2],
-    );
-    bound(
-        b"qR is 1",
-        1,
-        &[1, 1, 1, 1, 0, 16, 0, 0, 0, 0],
-        &labels,
-        &[2],
-    );
-    bound(
-        b"qO is 16",
-        1,
-        &[1, 1, 0, 1, 16, 16, 0, 0, 0, 0],
-        &labels,
-        &[2],
-    );
-    bound(
-        b"qM is 1",
-        1,
-        &[1, 1, 0, 1, 0, 16, 1, 0, 0, 0],
-        &labels,
-        &[2],
-    );
-    bound(
-        b"qC is 1",
-        1,
-        &[1, 1, 0, 1, 0, 16, 0, 0, 1, 0],
-        &labels,
-        &[2],
-    );
+    unbound(b"qL is 0", 0, 0);
+    unbound(b"qR is 1", 2, 1);
+    unbound(b"qO is 16", 4, 16);
+    unbound(b"qM is 1", 6, 1);
+    unbound(b"qC is 1", 8, 1);
     bound(b"row 1 is no public row", 2, &one, &labels, &[2, 6]);
     public(b"neither is a public row", 2, &[0, 0], &[1, 14]);
     bound(

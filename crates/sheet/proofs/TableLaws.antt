@@ -3,8 +3,7 @@
 -- selectors-same, labels-same, witness-same, publics-same, challenges-same   number k of each buffer
 -- elements-same, selectors-list-same, labels-list-same   the elements end to end, the selectors and the labels
 -- elements-long   how many elements the table has
--- selector-word   selector s of row i is word s of line i + 1
--- unbound-table   so the rows that are looked at for 14 are those of its lines
+-- unbound-table   selector s of row i is word s of line i + 1, so the row of a line that is no public row is the one that 14 names
 --
 -- Assumes nothing.
 use mathlib.Core.Path.{_≡_, sym, ap, ap₂, _∙_}
