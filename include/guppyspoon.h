@@ -64,7 +64,7 @@ extern "C" {
 #define GUPPYSPOON_SHEET_CHALLENGES_LENGTH 4
 
 /* The words of each call's answer. */
-#define GUPPYSPOON_INVERSE_WORDS 3
+#define GUPPYSPOON_INVERSE_WORDS 4
 #define GUPPYSPOON_EVALUATE_WORDS 2
 #define GUPPYSPOON_INTERPOLATE_WORDS 2
 #define GUPPYSPOON_PERMUTATION_WORDS 2
@@ -128,11 +128,11 @@ enum guppyspoon_point_verdict {
     GUPPYSPOON_POINT_REJECT = 2
 };
 
-/* The inverse of x modulo p; that of 0 is 0.
+/* The inverse of x modulo p; 0 has none.
  *
  * Buffers: none.
  * Reasons: 2, 7 (x is place 0).
- * Answer: number, detail, the inverse (0 if refused).
+ * Answer: number, detail, 1 if there is an inverse and 0 if there is none (x is 0, or the call was refused), the inverse (0 if there is none).
  */
 void guppyspoon_inverse(uint32_t p, uint32_t x, uint32_t *answer, size_t answer_length);
 

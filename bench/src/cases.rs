@@ -128,11 +128,12 @@ impl Circuit {
         }
     }
 
+    // z at the rows; ones where there is none.
     fn z(&self) -> Vec<u32> {
         let (p, n) = (self.p, self.n as usize);
         let own = rows::marks(p, &points(p, n));
         let wired = rows::wired_marks(&own, &self.labels);
-        rows::grand(p, n, &self.contents, &own, &wired, self.challenges[0], self.challenges[1])
+        rows::grand(p, n, &self.contents, &own, &wired, self.challenges[0], self.challenges[1]).unwrap_or(vec![1; n])
     }
 
     fn prepared(&self) -> Vec<u32> {

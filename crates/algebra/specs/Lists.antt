@@ -1,6 +1,7 @@
 -- Lists, sums, products and counts.
 --
 -- tab f n         the list f 0, f 1, .., f (n - 1)
+-- gathered f n    the same list of numbers that may be none; none where one of them is
 -- sumN n f        f 0 + f 1 + .. + f (n - 1)
 -- prodN n f       f 0 × f 1 × .. × f (n - 1)
 -- All P l         every element of l satisfies P
@@ -12,12 +13,17 @@
 use mathlib.Core.Path.{_≡_}
 use mathlib.Core.Logic.{_≢_}
 use mathlib.Core.List.{List, [], _∷_}
+use mathlib.Core.Option.{Option, none, some, Option·map}
 use Prim.Native.Nat.{ℕ, zero, suc, _+_, _*_, _≤_, _<_}
 use lib.ListN.{length}
 
 unfoldable pub tab : (ℕ → ℕ) → ℕ → List ℕ
 tab f zero = []
 tab f (suc n) = f 0 ∷ tab (λ k. f (suc k)) n
+
+unfoldable pub gathered : (ℕ → Option ℕ) → ℕ → Option (List ℕ)
+gathered f zero = some []
+gathered f (suc n) = elim (f 0) [ none ↦ none | some a ↦ Option·map (λ l. a ∷ l) (gathered (λ k. f (suc k)) n) ]
 
 abbrev pub sumN : ℕ → (ℕ → ℕ) → ℕ
 sumN zero f = 0

@@ -4,6 +4,7 @@
 -- length-tab, getD-tab, tab-snoc, tab-add, tab-ext   of the list itself
 -- tab-getD                                  a list is the table of its own elements
 -- tab-const                                 a table of one number
+-- gathered-some, gathered-ext               what is gathered, where there is each number; it sees the first n only
 -- all-tab, nodup-tab                        every element; no element twice
 -- all-getD, all-of                          every element, by index
 -- all-append, all-left, all-right           every element of two lists end to end, there and back
@@ -14,13 +15,14 @@
 use mathlib.Core.Path.{_≡_, refl, ap, ap₂, _∙_}
 use mathlib.Core.Logic.{_≢_}
 use mathlib.Core.List.{List, [], _∷_, _++_, append-nil}
+use mathlib.Core.Option.{Option, none, some, Option·map}
 use Prim.Native.Nat.{ℕ, zero, suc, _+_, _<_, _≤_}
 use native.Mathlib.Nat.{le-antisymm, zero-add, suc-add}
 use native.Mathlib.Numerals.{add-one}
 use native.Mathlib.Omega.{arith}
 use lib.ListN.{length, getD, set, drop, replicate}
 use lib.Seq.{set-at, drop-cons, append-snoc, drop-length, getD-drop, getD-append-add}
-use Rattle.algebra.specs.Lists.{tab, All, Nodup}
+use Rattle.algebra.specs.Lists.{tab, gathered, All, Nodup}
 
 pub length-tab : (f : ℕ → ℕ) (n : ℕ) → length (tab f n) ≡ n
 unfolding tab
@@ -59,6 +61,19 @@ pub tab-const : (c n : ℕ) → tab (λ k. c) n ≡ replicate n c
 unfolding tab
 tab-const c zero = refl
 tab-const c (suc n) = ap (λ (l : List ℕ). c ∷ l) (tab-const c n)
+
+pub gathered-some : (f : ℕ → Option ℕ) (g : ℕ → ℕ) (n : ℕ) → ((k : ℕ) → k < n → f k ≡ some (g k)) → gathered f n ≡ some (tab g n)
+unfolding gathered tab
+gathered-some f g zero h = refl
+gathered-some f g (suc n) h =
+    rw (h 0 (omega arith), gathered, gathered-some (λ k. f (suc k)) (λ k. g (suc k)) n (λ k l. h (suc k) (omega arith)))
+
+pub gathered-ext : (f g : ℕ → Option ℕ) (n : ℕ) → ((k : ℕ) → k < n → f k ≡ g k) → gathered f n ≡ gathered g n
+unfolding gathered
+gathered-ext f g zero h = refl
+gathered-ext f g (suc n) h =
+    ap₂ (λ (o : Option ℕ) (t : Option (List ℕ)). elim o [ none ↦ none | some a ↦ Option·map (λ l. a ∷ l) t ]) (h 0 (omega arith))
+    (gathered-ext (λ k. f (suc k)) (λ k. g (suc k)) n (λ k l. h (suc k) (omega arith)))
 
 pub all-tab : (P : ℕ → Type 0) (f : ℕ → ℕ) (n : ℕ) → ((k : ℕ) → k < n → P (f k)) → All P (tab f n)
 unfolding tab

@@ -6,20 +6,24 @@
 -- Assumes nothing.
 use mathlib.Core.Path.{_≡_, refl}
 use mathlib.Core.Bool.{Bool, true, false, cond}
-use mathlib.Core.List.{List, [], _∷_, _++_}
-use Prim.Native.Nat.{ℕ, _+_, _*_, _≤_}
+use mathlib.Core.List.{List, [], _∷_}
+use mathlib.Core.Option.{Option, none, some}
+use Prim.Native.Nat.{ℕ, _≤_}
 use native.Mathlib.Omega.{arith}
-use lib.ListN.{length, length-append}
+use lib.ListN.{length, getD, length-append}
 use borrow.Author.Tests.{eqb-true}
-use Rattle.algebra.specs.PolynomialLaws.{length-reduced}
+use Rattle.algebra.specs.Polynomial.{Elements}
+use Rattle.field.specs.declared.Answer.{Answer}
+use Rattle.field.specs.Primes.{rows-power}
+use Rattle.field.specs.Domain.{Domain, domain}
 use Rattle.field.specs.Reasons.{isAccepted}
-use Rattle.circuit.specs.Circuit.{Constraints, position}
-use Rattle.circuit.specs.Buffers.{quotientLength}
-use Rattle.protocol.specs.Protocol.{rowZ, wiresOf, zOf, tOf, quotient, PointVerdict, accept, reject, pointVerdict, prepared, proved}
-use Rattle.protocol.specs.Lengths.{interpolation-length}
+use Rattle.circuit.specs.Circuit.{Constraints, lentConstraints, lentPublic, lentWitness}
+use Rattle.circuit.specs.Buffers.{transcriptLength}
+use Rattle.protocol.specs.Protocol.{PointVerdict, accept, reject, pointVerdict, prepared, proved}
+use Rattle.protocol.specs.Layout.{proved-elements}
 use Rattle.archive.specs.declared.Deposited.{Deposited}
-use Rattle.archive.specs.Printed.{refusedWord, letterLine, refusedText, verdictText, textLength, provedText, workAnswer, workText}
-use Rattle.archive.specs.Lines.{length-line, length-five}
+use Rattle.archive.specs.Printed.{refusedWord, refusedText, verdictText, transcriptText, textLength, provedText, workAnswer, workText}
+use Rattle.archive.specs.Lines.{length-line, transcript-fits}
 use Rattle.sheet.specs.Sheet.{readAnswer}
 use Rattle.archive.specs.Deposit.{depositText, Deposits}
 use Rattle.archive.specs.Sheets.{right-of}
@@ -35,50 +39,55 @@ verdict-long : (v : PointVerdict) → length (verdictText v) ≡ 7
 verdict-long accept = refl
 verdict-long reject = refl
 
-module _ (p n : ℕ) (C : Constraints) (x v : ℕ → ℕ) (beta gamma alpha zeta : ℕ) (few : n ≤ 256) where
-  abbrev z : List ℕ
-  z = zOf p n C v beta gamma
+proved-fits : (p n : ℕ) (C : Constraints) (x : ℕ → ℕ) (T : List ℕ) (beta gamma alpha zeta : ℕ) → n ≤ 256 → length T ≡ transcriptLength n
+    → length (provedText p n C x T beta gamma alpha zeta) ≤ textLength
+proved-fits p n C x T beta gamma alpha zeta few long =
+    let verdict : PointVerdict = pointVerdict p n (prepared p n C) x T beta gamma alpha zeta in
+    omega (arith, length-append (transcriptText n T) (verdictText verdict), transcript-fits n few T long, verdict-long verdict)
 
-  abbrev t : List ℕ
-  t = tOf p n C x v beta gamma alpha
-
-  abbrev verdict : List ℕ
-  verdict = verdictText (pointVerdict p n (prepared p n C) x (proved p n C x v beta gamma alpha) beta gamma alpha zeta)
-
-  abbrev wires : List ℕ
-  wires = letterLine 97 (wiresOf p n v 0) ++ (letterLine 98 (wiresOf p n v 1) ++ letterLine 99 (wiresOf p n v 2))
-
-  t-long : length t ≡ quotientLength n
-  unfolding quotient
-  t-long = length-reduced p (quotientLength n) _
-
-  proved-fits : length (provedText p n C x v beta gamma alpha zeta) ≤ textLength
-  unfolding provedText
-  proved-fits =
-      omega (
-        arith,
-        length-append (wires ++ (letterLine 122 z ++ letterLine 116 t)) verdict,
-        length-five (wiresOf p n v 0) (wiresOf p n v 1) (wiresOf p n v 2) z t,
-        interpolation-length p n (λ i. v (position n 0 i)),
-        interpolation-length p n (λ i. v (position n 1 i)),
-        interpolation-length p n (λ i. v (position n 2 i)),
-        interpolation-length p n (rowZ p n C v beta gamma),
-        t-long,
-        verdict-long (pointVerdict p n (prepared p n C) x (proved p n C x v beta gamma alpha) beta gamma alpha zeta),
-      )
-
-work-fits : (p n l : ℕ) (selectors labels witness publics challenges : List ℕ) → n ≤ 256
+work-fits : {p n : ℕ} → Domain p n → (l : ℕ) (selectors labels witness publics challenges : List ℕ) → 1 ≤ n → n ≤ 256
     → length (workText p n l selectors labels witness publics challenges) ≤ textLength
 unfolding workText
-work-fits p n l selectors labels witness publics challenges few =
-    either-fits (isAccepted (workAnswer p n l selectors labels witness publics challenges)) _ _ (λ e. proved-fits p n _ _ _ _ _ _ _ few)
-    (refused-fits _ _)
+work-fits {p} {n} D l selectors labels witness publics challenges some-rows few =
+    go (isAccepted r) (proved p n C x v beta gamma alpha) (λ T. proved-elements D C x v beta gamma alpha T some-rows)
+  where
+    r : Answer
+    r = workAnswer p n l selectors labels witness publics challenges
+
+    C : Constraints
+    C = lentConstraints n selectors labels
+
+    x : ℕ → ℕ
+    x = lentPublic publics
+
+    v : ℕ → ℕ
+    v = lentWitness n witness
+
+    beta : ℕ
+    beta = getD challenges 0 0
+
+    gamma : ℕ
+    gamma = getD challenges 1 0
+
+    alpha : ℕ
+    alpha = getD challenges 2 0
+
+    with : List ℕ → List ℕ
+    with T = provedText p n C x T beta gamma alpha (getD challenges 3 0)
+
+    go : (b : Bool) (o : Option (List ℕ)) → ((T : List ℕ) → o ≡ some T → Elements p (transcriptLength n) T)
+        → length {A = ℕ} (elim (cond b o none) [ none ↦ refusedText (r .number) (r .detail) | some T ↦ with T ]) ≤ textLength
+    go false o h = refused-fits (r .number) (r .detail)
+    go true none h = refused-fits (r .number) (r .detail)
+    go true (some T) h = proved-fits p n C x T beta gamma alpha (getD challenges 3 0) few (h T refl .long)
 
 pub text-fits : (s : List ℕ) → length (depositText s) ≤ textLength
 unfolding depositText
 text-fits s =
     either-fits (isAccepted (readAnswer s)) _ _
-    (λ e. work-fits _ _ _ _ _ _ _ _ (right-of s (eqb-true (readAnswer s .number) 0 e) .few-rows))
+    (λ e.
+    let R = right-of s (eqb-true (readAnswer s .number) 0 e) in
+    work-fits (domain _ _ (R .admissible)) _ _ _ _ _ _ (omega (arith, rows-power _ _ (R .admissible .rows) .least)) (R .few-rows))
     (refused-fits _ _)
 
 pub deposit-fits : (s text : List ℕ) (r : Deposited) (text' : List ℕ) → Deposits s text r text' → r .length ≤ textLength

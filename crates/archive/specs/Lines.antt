@@ -52,8 +52,8 @@ length-five a b c z t =
       length-line (116 ∷ []) t,
     )
 
-pub transcript-fits : (m : ℕ) {l out : List ℕ} → Laid m l out → length (transcriptText m l) + 7 ≤ length out
-transcript-fits m {l} L =
+pub transcript-fits : (m : ℕ) → m ≤ 256 → (l : List ℕ) → length l ≡ transcriptLength m → length (transcriptText m l) + 7 ≤ textLength
+transcript-fits m few l long =
     omega (
       arith,
       length-five (wirePart m 0 l) (wirePart m 1 l) (wirePart m 2 l) (zPart m l) (tPart m l),
@@ -62,7 +62,4 @@ transcript-fits m {l} L =
       short-wire m l 2,
       short-z m l,
       length-drop (tStart m) l,
-      L .few,
-      L .long,
-      L .room,
     )

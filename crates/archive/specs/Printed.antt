@@ -11,12 +11,15 @@
 -- transcriptText         the lines of a, b, c, z, t of a lent transcript
 -- textLength             the length of the lent buffer
 -- THE TEXT OF A DEPOSIT
--- provedText             the five polynomials and the verdict, of constraints, public inputs, a witness and beta, gamma, alpha, zeta
--- workAnswer, workText   of lent numbers: the prover's answer; its refusal, or provedText
+-- provedText             the lines of a transcript and of the verdict on it, of constraints, public inputs and beta, gamma, alpha, zeta
+-- workAnswer             the prover's answer for a sheet's numbers
+-- workTranscript         the transcript that it lays for them; none if refused
+-- workText               provedText of it, or the refusal
 --
 -- Assumes nothing.
 use mathlib.Core.Bool.{cond}
 use mathlib.Core.List.{List, [], _∷_, _++_}
+use mathlib.Core.Option.{Option, none, some}
 use Prim.Native.Nat.{ℕ}
 use lib.ListN.{getD, take, replicate}
 use Rattle.field.specs.declared.Answer.{Answer}
@@ -24,7 +27,7 @@ use Rattle.field.specs.Reasons.{answerOf, isAccepted}
 use Rattle.transform.specs.Transform.{scratchLength}
 use Rattle.circuit.specs.Circuit.{Constraints, lentConstraints, lentPublic, lentWitness}
 use Rattle.circuit.specs.Buffers.{transcriptLength, wirePart, zPart, tPart}
-use Rattle.protocol.specs.Protocol.{prepared, wiresOf, zOf, tOf, proved, PointVerdict, accept, reject, pointVerdict, proveReasons}
+use Rattle.protocol.specs.Protocol.{prepared, proved, PointVerdict, accept, reject, pointVerdict, proveReasons}
 use Rattle.pointcheck.specs.declared.Judged.{Judged}
 use Rattle.pointcheck.specs.declared.Judged.the-variants.{None, Accept, Reject}
 use Rattle.text.specs.Text.{decimal}
@@ -74,12 +77,10 @@ transcriptText n transcript =
 
 -- THE TEXT OF A DEPOSIT
 
--- the five polynomials and the point verdict on them, of constraints, public inputs, a witness and beta, gamma, alpha, zeta
-unfoldable pub provedText : ℕ → ℕ → Constraints → (ℕ → ℕ) → (ℕ → ℕ) → ℕ → ℕ → ℕ → ℕ → List ℕ
-provedText p n C x v beta gamma alpha zeta =
-    letterLine 97 (wiresOf p n v 0) ++ (letterLine 98 (wiresOf p n v 1) ++ letterLine 99 (wiresOf p n v 2))
-    ++ (letterLine 122 (zOf p n C v beta gamma) ++ letterLine 116 (tOf p n C x v beta gamma alpha))
-    ++ verdictText (pointVerdict p n (prepared p n C) x (proved p n C x v beta gamma alpha) beta gamma alpha zeta)
+-- a, b, c, z and t, and the point verdict on them
+abbrev pub provedText : ℕ → ℕ → Constraints → (ℕ → ℕ) → List ℕ → ℕ → ℕ → ℕ → ℕ → List ℕ
+provedText p n C x transcript beta gamma alpha zeta =
+    transcriptText n transcript ++ verdictText (pointVerdict p n (prepared p n C) x transcript beta gamma alpha zeta)
 
 -- the prover's answer for a sheet's numbers; the other two buffers have the lengths that are due
 unfoldable pub workAnswer : (p n l : ℕ) (selectors labels witness publics challenges : List ℕ) → Answer
@@ -87,9 +88,17 @@ workAnswer p n l selectors labels witness publics challenges =
     answerOf
     (proveReasons p n l selectors labels witness publics (replicate (transcriptLength n) 0) (take 3 challenges) (replicate (scratchLength n) 0))
 
+abbrev pub workTranscript : (p n l : ℕ) (selectors labels witness publics challenges : List ℕ) → Option (List ℕ)
+workTranscript p n l selectors labels witness publics challenges =
+    cond (isAccepted (workAnswer p n l selectors labels witness publics challenges))
+    (proved p n (lentConstraints n selectors labels) (lentPublic publics) (lentWitness n witness) (getD challenges 0 0) (getD challenges 1 0) (getD challenges 2 0))
+    none
+
 unfoldable pub workText : (p n l : ℕ) (selectors labels witness publics challenges : List ℕ) → List ℕ
 workText p n l selectors labels witness publics challenges =
     let r : Answer = workAnswer p n l selectors labels witness publics challenges in
-    cond (isAccepted r)
-    (provedText p n (lentConstraints n selectors labels) (lentPublic publics) (lentWitness n witness) (getD challenges 0 0) (getD challenges 1 0) (getD challenges 2 0) (getD challenges 3 0))
-    (refusedText (r .number) (r .detail))
+    elim (workTranscript p n l selectors labels witness publics challenges) [
+      | none ↦ refusedText (r .number) (r .detail)
+      | some transcript ↦
+          provedText p n (lentConstraints n selectors labels) (lentPublic publics) transcript (getD challenges 0 0) (getD challenges 1 0) (getD challenges 2 0) (getD challenges 3 0)
+    ]

@@ -9,7 +9,7 @@
 -- THEOREMS
 -- work-reasons    the prover's reasons see no more of transcript and scratch than their lengths
 -- lays-of, laid-of   what `prove` promises is Lays; what is laid where the answer's number is 0
--- checkable-of    the transcript of an accepted call can be judged
+-- checkable-of    the transcript that an accepted call laid can be judged
 -- proved-text, refused-text   the text of an accepted call, and of a refused one, is the text of the definitions
 -- prepared-of, judged-of      what `prepare` and `check_point` promise of buffers that they do not turn down
 -- judgeable-of    what can be judged with a circuit can be with the prepared circuit
@@ -18,9 +18,10 @@
 -- Assumes nothing.
 use mathlib.Core.Path.{_≡_, refl, sym, ap, _∙_}
 use mathlib.Core.Logic.{_≢_}
-use mathlib.Core.Bool.{Bool, false, cond}
+use mathlib.Core.Bool.{true, false, cond}
 use mathlib.Core.List.{List, _++_}
-use Prim.Native.Nat.{ℕ, _≤_, _<_}
+use mathlib.Core.Option.{some}
+use Prim.Native.Nat.{ℕ, _≤_}
 use native.Mathlib.Omega.{arith}
 use lib.ListN.{length, getD, take, replicate, length-replicate}
 use lib.Seq.{getD-take}
@@ -28,15 +29,15 @@ use borrow.Author.Tests.{eq-eqb, ne-eqb}
 use Rattle.algebra.specs.Polynomial.{Elements}
 use Rattle.field.specs.declared.Answer.{Answer}
 use Rattle.field.specs.Fields.{Admissible}
-use Rattle.field.specs.Primes.{field-prime, rows-power}
+use Rattle.field.specs.Primes.{rows-power}
+use Rattle.field.specs.Domain.{domain}
 use Rattle.field.specs.Reasons.{answerOf, isAccepted}
 use Rattle.transform.specs.Transform.{scratchLength}
-use Rattle.circuit.specs.Circuit.{Constraints, lentConstraints, lentPublic, lentWitness}
+use Rattle.circuit.specs.Circuit.{lentConstraints, lentPublic, lentWitness}
 use Rattle.circuit.specs.Buffers.{preparedLength, transcriptLength}
 use Rattle.circuit.specs.RightlyLent.{RightCircuit, prepare-taken, point-taken}
-use Rattle.protocol.specs.Protocol.{prepared, wiresOf, zOf, tOf, proved, PointVerdict, accept, reject, pointVerdict, proveReasons}
-use Rattle.protocol.specs.Layout.{prepared-elements, wire-part, z-part, t-part, proved-elements}
-use Rattle.protocol.specs.Lengths.{interpolation-length}
+use Rattle.protocol.specs.Protocol.{prepared, PointVerdict, accept, reject, pointVerdict, proveReasons}
+use Rattle.protocol.specs.Layout.{prepared-elements, proved-elements}
 use Rattle.preparing.specs.Promises.{Prepares}
 use Rattle.pointcheck.specs.declared.Judged.{Judged}
 use Rattle.pointcheck.specs.declared.Judged.the-variants.{None}
@@ -44,12 +45,12 @@ use Rattle.pointcheck.specs.declared.PointAnswer.{PointAnswer}
 use Rattle.pointcheck.specs.Promises.{judgedAs, judgedAt, PointChecks}
 use Rattle.witnesses.specs.Accepted.{accepted-of}
 use Rattle.prover.specs.Promises.{provedFrom, Proves}
-use Rattle.archive.specs.Printed.{refusedText, judgedText, verdictText, transcriptText, textLength, provedText, workAnswer, workText}
+use Rattle.archive.specs.Printed.{refusedText, judgedText, verdictText, transcriptText, textLength, workAnswer, workText}
 use Rattle.archive.specs.Lines.{Laid}
 
 pub record Lays (p n l : ℕ) (selectors labels witness publics challenges transcript : List ℕ) (r : Answer) (transcript' : List ℕ) : Type 0 where
   pub answer : r ≡ workAnswer p n l selectors labels witness publics challenges
-  pub lays : transcript' ≡ cond (isAccepted r) (provedFrom p n selectors labels witness publics (take 3 challenges)) transcript
+  pub lays : some transcript' ≡ cond (isAccepted r) (provedFrom p n selectors labels witness publics (take 3 challenges)) (some transcript)
 
 pub record Judgeable (p n l : ℕ) (publics prepared transcript challenges : List ℕ) : Type 0 where
   pub few : n ≤ 256
@@ -96,30 +97,7 @@ judged-verdict : (v : PointVerdict) → judgedText (judgedAs v) ≡ verdictText 
 judged-verdict accept = refl
 judged-verdict reject = refl
 
--- the text of a laid transcript, whatever the transcript is called
-laid-text : (p n : ℕ) (C : Constraints) (x v : ℕ → ℕ) (beta gamma alpha zeta : ℕ)
-    → transcriptText n (proved p n C x v beta gamma alpha)
-    ++ judgedText (judgedAs (pointVerdict p n (prepared p n C) x (proved p n C x v beta gamma alpha) beta gamma alpha zeta))
-    ≡ provedText p n C x v beta gamma alpha zeta
-unfolding provedText
-laid-text p n C x v beta gamma alpha zeta =
-    let z = zOf p n C v beta gamma in
-    let t = tOf p n C x v beta gamma alpha in
-    let lw : (c : ℕ) → c < 3 → length (wiresOf p n v c) ≡ n = λ c h. interpolation-length p n _ in
-    let lz : length z ≡ n = interpolation-length p n _ in
-    rw (
-      wire-part n (wiresOf p n v) z t lw 0 (omega arith),
-      wire-part n (wiresOf p n v) z t lw 1 (omega arith),
-      wire-part n (wiresOf p n v) z t lw 2 (omega arith),
-      z-part n (wiresOf p n v) z t lw lz,
-      t-part n (wiresOf p n v) z t lw lz,
-      judged-verdict (pointVerdict p n (prepared p n C) x (proved p n C x v beta gamma alpha) beta gamma alpha zeta),
-    )
-
 module _ (p n l : ℕ) (selectors labels witness publics challenges : List ℕ) where
-  abbrev laid : List ℕ
-  laid = provedFrom p n selectors labels witness publics (take 3 challenges)
-
   pub lays-of : (transcript scratch : List ℕ) (r : Answer) (transcript' scratch' : List ℕ)
       → length transcript ≡ transcriptLength n → length scratch ≡ scratchLength n
       → Proves p n l selectors labels witness publics transcript (take 3 challenges) scratch r transcript' scratch'
@@ -133,40 +111,39 @@ module _ (p n l : ℕ) (selectors labels witness publics challenges : List ℕ) 
   -- what is laid where the answer's number is 0
   pub laid-of : (transcript : List ℕ) (r : Answer) (transcript' : List ℕ)
       → Lays p n l selectors labels witness publics challenges transcript r transcript' → r .number ≡ 0
-      → transcript' ≡ provedFrom p n selectors labels witness publics (take 3 challenges)
+      → provedFrom p n selectors labels witness publics (take 3 challenges) ≡ some transcript'
   laid-of transcript r transcript' L e =
-      L .lays ∙ ap (λ (b : Bool). cond b laid transcript) (eq-eqb (r .number) 0 e)
+      let yes : isAccepted r ≡ true = eq-eqb (r .number) 0 e in
+      sym (rw yes at (L .lays))
 
-  pub checkable-of : (text : List ℕ) → Workable p n challenges text → workAnswer p n l selectors labels witness publics challenges .number ≡ 0
-      → Checkable p n l selectors labels publics (provedFrom p n selectors labels witness publics (take 3 challenges)) challenges
-  unfolding workAnswer
-  checkable-of text W e =
-      let A =
-      accepted-of p n l selectors labels witness publics (replicate (transcriptLength n) 0) (take 3 challenges) (replicate (scratchLength n) 0) e in
-      record {
-        few = W .few;
-        admissible = A .admissible;
-        circuit-right = A .circuit-right;
-        publics-right = A .publics-right;
-        transcript-right =
-            proved-elements p n (lentConstraints n selectors labels) (lentPublic publics) (lentWitness n witness) _ _ _
-            (omega (arith, field-prime p (A .admissible .one-of-three) .two))
-            (omega (arith, W .some));
-        challenges-right = W .challenges-right;
-      }
+  -- an accepted call, and the transcript that it laid
+  module _ (e : workAnswer p n l selectors labels witness publics challenges .number ≡ 0) (T : List ℕ)
+      (laid : provedFrom p n selectors labels witness publics (take 3 challenges) ≡ some T) where
+    pub checkable-of : (text : List ℕ) → Workable p n challenges text → Checkable p n l selectors labels publics T challenges
+    unfolding workAnswer
+    checkable-of text W =
+        let A =
+        accepted-of p n l selectors labels witness publics (replicate (transcriptLength n) 0) (take 3 challenges) (replicate (scratchLength n) 0) e in
+        record {
+          few = W .few;
+          admissible = A .admissible;
+          circuit-right = A .circuit-right;
+          publics-right = A .publics-right;
+          transcript-right =
+              proved-elements (domain p n (A .admissible)) (lentConstraints n selectors labels) (lentPublic publics) (lentWitness n witness) _ _ _ T
+              (omega (arith, W .some))
+              laid;
+          challenges-right = W .challenges-right;
+        }
 
-  pub proved-text : workAnswer p n l selectors labels witness publics challenges .number ≡ 0
-      → checkedText p n selectors labels publics (provedFrom p n selectors labels witness publics (take 3 challenges)) challenges
-      ≡ workText p n l selectors labels witness publics challenges
-  unfolding workText
-  proved-text e =
-      rw (
-        getD-take 3 challenges 0 0 (omega arith),
-        getD-take 3 challenges 1 0 (omega arith),
-        getD-take 3 challenges 2 0 (omega arith),
-        eq-eqb (workAnswer p n l selectors labels witness publics challenges .number) 0 e,
-      )
-      (laid-text p n (lentConstraints n selectors labels) (lentPublic publics) (lentWitness n witness) (getD challenges 0 0) (getD challenges 1 0) (getD challenges 2 0) (getD challenges 3 0))
+    pub proved-text : checkedText p n selectors labels publics T challenges ≡ workText p n l selectors labels witness publics challenges
+    unfolding workText
+    proved-text =
+        let verdict : PointVerdict =
+        pointVerdict p n (prepared p n (lentConstraints n selectors labels)) (lentPublic publics) T (getD challenges 0 0) (getD challenges 1 0) (getD challenges 2 0) (getD challenges 3 0) in
+        let there = rw (getD-take 3 challenges 0 0 (omega arith), getD-take 3 challenges 1 0 (omega arith), getD-take 3 challenges 2 0 (omega arith)) at laid in
+        rw (eq-eqb (workAnswer p n l selectors labels witness publics challenges .number) 0 e, workText, there)
+        (ap (λ (u : List ℕ). transcriptText n T ++ u) (judged-verdict verdict))
 
   pub refused-text : (r : Answer) → r ≡ workAnswer p n l selectors labels witness publics challenges → r .number ≢ 0
       → refusedText (r .number) (r .detail) ≡ workText p n l selectors labels witness publics challenges
@@ -174,7 +151,7 @@ module _ (p n l : ℕ) (selectors labels witness publics challenges : List ℕ) 
   refused-text r e h =
       let no : isAccepted (workAnswer p n l selectors labels witness publics challenges) ≡ false =
       ap isAccepted (sym e) ∙ ne-eqb (r .number) 0 h in
-      rw (no, e)
+      rw (no, workText, e)
 
 pub prepared-of : {p n l : ℕ} (selectors labels written scratch : List ℕ) (r : Answer) (written' scratch' : List ℕ)
     → Admissible p n → RightCircuit p n l selectors labels → length written ≡ preparedLength n → length scratch ≡ scratchLength n
@@ -203,8 +180,7 @@ judgeable-of {p} {n} {l} {selectors} {labels} {publics} {transcript} {challenges
       admissible = K .admissible;
       publics-few = K .circuit-right .circuit .publics-few;
       publics-right = K .publics-right;
-      prepared-right =
-          prepared-elements p n (lentConstraints n selectors labels) (omega (arith, field-prime p (K .admissible .one-of-three) .two));
+      prepared-right = prepared-elements (domain p n (K .admissible)) (lentConstraints n selectors labels);
       transcript-right = K .transcript-right;
       challenges-right = K .challenges-right;
     }

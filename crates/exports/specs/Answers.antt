@@ -2,7 +2,9 @@
 --
 -- over words buffer     the words over the start of a buffer, as many as it has room for; the rest of the buffer as it was
 -- answerWords r         number and detail
--- invertedWords r       number, detail and the value
+-- isThere i             1 where there is an inverse, 0 where there is none
+-- inverseWord i         the inverse; 0 where there is none
+-- invertedWords r       number, detail, whether there is an inverse, and the inverse
 -- identityWord id       the word of a failing identity: 2 gate, 3 start, 4 step
 -- verdictWord v         the word of a row verdict: 0 none, 1 pass, or that of the identity that fails
 -- verdictRow v          the row that fails; 0 where none does
@@ -18,6 +20,8 @@ use mathlib.Core.Path.{_≡_}
 use mathlib.Core.List.{List, [], _∷_}
 use Prim.Native.Nat.{ℕ}
 use Rattle.field.specs.declared.Answer.{Answer}
+use Rattle.field.specs.declared.InverseOf.{InverseOf}
+use Rattle.field.specs.declared.InverseOf.the-variants as inverse
 use Rattle.field.specs.declared.Inverted.{Inverted}
 use Rattle.rowcheck.specs.declared.Identity.{Identity}
 use Rattle.rowcheck.specs.declared.Identity.the-variants.{Gate, Start, Step}
@@ -38,8 +42,16 @@ over (x ∷ words) (y ∷ buffer) = x ∷ over words buffer
 abbrev pub answerWords : Answer → List ℕ
 answerWords r = r .number ∷ r .detail ∷ []
 
+abbrev pub isThere : InverseOf → ℕ
+isThere inverse.None = 0
+isThere (inverse.Is y) = 1
+
+abbrev pub inverseWord : InverseOf → ℕ
+inverseWord inverse.None = 0
+inverseWord (inverse.Is y) = y
+
 abbrev pub invertedWords : Inverted → List ℕ
-invertedWords r = r .answer .number ∷ r .answer .detail ∷ r .value ∷ []
+invertedWords r = r .answer .number ∷ r .answer .detail ∷ isThere (r .value) ∷ inverseWord (r .value) ∷ []
 
 abbrev pub identityWord : Identity → ℕ
 identityWord Gate = 2

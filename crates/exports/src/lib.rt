@@ -8,7 +8,7 @@
 // No slice may overlap one that is written. Nothing is returned. The answer's words are written to `answer`, the last slice of each call: number
 // and detail, and then
 //
-//   guppyspoon_inverse         the value
+//   guppyspoon_inverse         1 or 0 (there is an inverse, or none); and the inverse, or 0
 //   guppyspoon_check_rows      0 none, 1 pass, 2 gate, 3 start, 4 step; and the row that fails, or 0
 //   guppyspoon_check_point     0 none, 1 accept, 2 reject
 //   guppyspoon_check_opening   0 none, 1 accept, 2 reject
@@ -32,7 +32,7 @@ ghost use Rattle.exports.specs.Answers.{answerWords, invertedWords, rowW
 
 mod words;
 
-// `field::inverse`: the inverse of x modulo p.
+// `field::inverse`: the inverse of x modulo p; none for 0.
 #[no_mangle]
 pub extern "C" fn guppyspoon_inverse(p: u32, x: u32, answer: &mut [u32])
     ensures { λ _. ⌜ Handed invertedWords (λ r. Inverts p x r) (now (answer .entry)) (now (answer .exit)) ⌝ }

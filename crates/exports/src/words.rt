@@ -3,9 +3,10 @@ ghost use mathlib.Core.Path.{_≡_};
 ghost use Prim.Native.Nat.{_≤_};
 ghost use lib.ListN.{set};
 ghost use Rattle.archive.specs.Printed.{textLength};
-ghost use Rattle.exports.specs.Answers.{over, answerWords, invertedWords, identityWord, verdictWord, verdictRow, rowWords, judgedWord, pointWords, sheetWords, depositedWords};
+ghost use Rattle.exports.specs.Answers.{over, answerWords, isThere, inverseWord, invertedWords, identityWord, verdictWord, verdictRow, rowWords, judgedWord, pointWords, sheetWords, depositedWords};
 use archive::Deposited;
 use field::Answer;
+use field::InverseOf;
 use field::Inverted;
 use pointcheck::Judged;
 use pointcheck::PointAnswer;
@@ -31,13 +32,35 @@ pub fn put_answer(r: Answer, buffer: &mut [u32])
     put(buffer, 1, r.detail);
 }
 
-// The number, the detail and the value.
+// 1 where there is an inverse, 0 where there is none.
+fn is_there(i: InverseOf) -> u32
+    ensures { λ r. ⌜ r ≡ isThere i ⌝ }
+{
+    match i {
+        InverseOf::None => 0,
+        InverseOf::Is(_) => 1,
+    }
+}
+
+// The inverse; 0 where there is none.
+fn inverse_word(i: InverseOf) -> u32
+    ensures { λ r. ⌜ r ≡ inverseWord i ⌝ }
+{
+    match i {
+        InverseOf::None => 0,
+        InverseOf::Is(y) => y,
+    }
+}
+
+// The number, the detail, whether there is an inverse, and the inverse.
 pub fn put_inverted(r: Inverted, buffer: &mut [u32])
     ensures { λ _. ⌜ now (buffer .exit) ≡ over (invertedWords r) (now (buffer .entry)) ⌝ }
 {
     let a = r.answer;
+    let i = r.value;
     put_answer(a, buffer);
-    put(buffer, 2, r.value);
+    put(buffer, 2, is_there(i));
+    put(buffer, 3, inverse_word(i));
 }
 
 // The word of a failing identity.

@@ -1,6 +1,7 @@
 -- Definitions, then theorems.
 pub mod Fields
 pub mod Reasons
+pub mod Inverses
 pub mod Primes
 pub mod Rooted
 pub mod Domain

@@ -14,17 +14,21 @@
 -- firstAbove p xs    the place of the first number of xs that is p or more; the length where there is none
 -- badElement p xs    7: a number of xs is p or more; detail: the place of the first
 -- inverseReasons p x the reasons of `inverse`
+-- inverseAs o        the inverse as the enum of `inverse`
 -- Inverts p x r      what `inverse` promises of its answer r
 --
 -- Assumes nothing.
 use mathlib.Core.Path.{_≡_}
 use mathlib.Core.Bool.{Bool, not, cond, _||_}
 use mathlib.Core.List.{List, [], _∷_, _++_}
+use mathlib.Core.Option.{Option, none, some}
 use Prim.Native.Nat.{ℕ, suc}
 use lib.Dec.{eqb, leb, ltb}
 use lib.ListN.{length, getD}
 use Rattle.algebra.specs.Modular.{first, inverse}
 use Rattle.field.specs.declared.Answer.{Answer}
+use Rattle.field.specs.declared.InverseOf.{InverseOf}
+use Rattle.field.specs.declared.InverseOf.the-variants.{None, Is}
 use Rattle.field.specs.declared.Inverted.{Inverted}
 use Rattle.field.specs.Fields.{isField, isRows, greatestRows}
 
@@ -75,6 +79,10 @@ badElement p xs = reasonAt 7 (firstAbove p xs) (length xs)
 abbrev pub inverseReasons : ℕ → ℕ → List Reason
 inverseReasons p x = badField p ∷ badElement p (x ∷ []) ∷ []
 
+abbrev pub inverseAs : Option ℕ → InverseOf
+inverseAs none = None
+inverseAs (some y) = Is y
+
 pub record Inverts (p x : ℕ) (r : Inverted) : Type 0 where
   pub answer : r .answer ≡ answerOf (inverseReasons p x)
-  pub value : r .value ≡ cond (isAccepted (r .answer)) (inverse p x) 0
+  pub value : r .value ≡ cond (isAccepted (r .answer)) (inverseAs (inverse p x)) None

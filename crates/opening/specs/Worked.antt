@@ -1,6 +1,6 @@
 -- Openings on the worked sheet (the one of document 01), as one table under one statement.
 --
--- prepared, transcript   what preparing writes for the sheet, and what the prover lays
+-- prepared, transcript   what preparing writes for the sheet, and what the prover lays (protocol's table has it)
 -- evaluated, opened, judged   the evaluations, the opening polynomial and the verdict of the definitions, for these two
 -- answered               the answer of `open` to a list, all else being right
 -- five, thirteen         the lists of a, b, c, z and t, and of all polynomials
@@ -15,14 +15,14 @@ use lib.Count.{ones}
 use lib.ListN.{replicate}
 use Rattle.algebra.specs.Lists.{tab, All}
 use Rattle.algebra.specs.Modular.{powF, first, inverse}
-use Rattle.algebra.specs.Polynomial.{quotientVanishing, reduced}
+use Rattle.algebra.specs.Polynomial.{reduced}
 use Rattle.field.specs.Fields.{isField, isRows, greatestRows, generator, root, point, multiplier, tag}
 use Rattle.field.specs.Reasons.{answerOf, firstOther, firstAbove}
 use Rattle.transform.specs.Transform.{interpolation}
-use Rattle.circuit.specs.Circuit.{lentWitness, permutation}
-use Rattle.protocol.specs.Protocol.{rowN, rowD, rowZ, polyN, polyD, polyL, gatePart, stepPart, startPart, polyF, quotient, proved, accept, reject}
+use Rattle.circuit.specs.Circuit.{permutation}
+use Rattle.protocol.specs.Protocol.{accept, reject}
 use Rattle.protocol.specs.Protocol as protocol
-use Rattle.protocol.specs.Worked.{circuit, publics, witness, Value, Case, numbers, answer, atPoint, _&_}
+use Rattle.protocol.specs.Worked.{circuit, transcriptWorked, Value, Case, numbers, answer, atPoint, _&_}
 use Rattle.opening.specs.Opening.{polynomialOf, evaluationsOf, mixtureOf, openingOf, openingVerdict}
 use Rattle.opening.specs.Reasons.{openReasons}
 
@@ -30,7 +30,7 @@ abbrev pub prepared : List ℕ
 prepared = 9 ∷ 8 ∷ 9 ∷ 8 ∷ 16 ∷ 0 ∷ 9 ∷ 9 ∷ 0 ∷ 0 ∷ 16 ∷ 2 ∷ 6 ∷ 14 ∷ 12 ∷ 4 ∷ []
 
 abbrev pub transcript : List ℕ
-transcript = 4 ∷ 15 ∷ 13 ∷ 7 ∷ 9 ∷ 14 ∷ 16 ∷ 2 ∷ 9 ∷ 12 ∷ 15 ∷ []
+transcript = transcriptWorked
 
 abbrev pub evaluated : List ℕ → ℕ → Value
 evaluated list x = numbers (evaluationsOf 17 2 prepared transcript list x)
@@ -55,7 +55,6 @@ thirteen = 0 ∷ 1 ∷ 2 ∷ 3 ∷ 4 ∷ 5 ∷ 6 ∷ 7 ∷ five
 abbrev pub table : List Case
 table =
     record { what = "the prepared circuit"; is = numbers (protocol.prepared 17 2 circuit); should = numbers prepared }
-    ∷ record { what = "the transcript"; is = numbers (proved 17 2 circuit publics witness 1 1 2); should = numbers transcript }
     ∷ record { what = "a, b, c, z, t at 2"; is = evaluated five 2; should = numbers (0 ∷ 10 ∷ 3 ∷ 3 ∷ 8 ∷ []) }
     ∷ record { what = "their opening, m 3"; is = opened five 2 3; should = numbers (14 ∷ 8 ∷ []) }
     ∷ record { what = "accepted"; is = judged five (0 ∷ 10 ∷ 3 ∷ 3 ∷ 8 ∷ []) (14 ∷ 8 ∷ []) 2 3; should = atPoint accept }
@@ -81,5 +80,5 @@ table =
     ∷ []
 
 pub worked : All (λ r. r .is ≡ r .should) table
-unfolding tab powF first inverse quotientVanishing reduced isField isRows greatestRows generator root point multiplier tag firstOther firstAbove interpolation lentWitness permutation rowN rowD rowZ polyN polyD polyL gatePart stepPart startPart polyF quotient protocol.prepared polynomialOf evaluationsOf mixtureOf openingOf openingVerdict ones
-worked = refl & refl & refl & refl & refl & refl & refl & refl & refl & refl & refl & refl & refl & refl & refl & refl & refl & refl & refl & refl & refl & refl & refl & refl & tt
+unfolding tab powF first inverse reduced isField isRows greatestRows generator root point multiplier tag firstOther firstAbove interpolation permutation protocol.prepared polynomialOf evaluationsOf mixtureOf openingOf openingVerdict ones
+worked = refl & refl & refl & refl & refl & refl & refl & refl & refl & refl & refl & refl & refl & refl & refl & refl & refl & refl & refl & refl & refl & refl & refl & tt

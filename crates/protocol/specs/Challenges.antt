@@ -97,5 +97,5 @@ module _ (q n : ℕ) (D : Domain (suc q) n) (C : Constraints) (x : ℕ → ℕ) 
       → AtMost d (λ (zeta : ℕ). (zeta < suc q) × (pointVerdict (suc q) n (prepared (suc q) n C) x (transcript wire z t) beta gamma alpha zeta ≡ accept))
   few-zetas lw lz alpha t d lf lt none =
       at-most-of (agree q (D .prime) d (F alpha) (timesVanishing p n t) lf (omega (arith, length-vanishing p n t)) none)
-      (λ zeta h. (accepted-agree q n C x wire z t lw lz beta gamma alpha zeta (h .1), h .0))
+      (λ zeta h. (accepted-agree q n D C x wire z t lw lz beta gamma alpha zeta (h .1), h .0))
       (omega arith)

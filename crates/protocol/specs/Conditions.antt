@@ -4,13 +4,14 @@
 -- satisfied            where 9 and 10 apply nowhere, the witness satisfies the constraints
 -- unbroken             where it satisfies the constraints, 9 and 10 apply nowhere
 -- factors-nonzero      where 11 applies nowhere, no factor of any D(i) is zero
+-- zero-factor-labels   11 sees the labels alone of lent constraints
 -- few-zero-factors     at most 3n × p pairs (beta, gamma) meet 11
 --
 -- Assumes nothing.
 use mathlib.Core.Path.{_≡_, refl, sym, ap, _∙_, subst}
 use mathlib.Core.Logic.{_⊎_, inl, inr}
 use mathlib.Core.Bool.{Bool, true, false, not, _&&_, _||_}
-use mathlib.Core.List.{[], _∷_}
+use mathlib.Core.List.{List, [], _∷_}
 use Prim.Native.Nat.{ℕ, zero, suc, _+_, _*_, _%_, _<_}
 use native.Mathlib.Decide.{ℕ-discrete, decLt}
 use native.Mathlib.Omega.{arith}
@@ -21,7 +22,7 @@ use Rattle.algebra.specs.Lists.{AtMost}
 use Rattle.algebra.specs.Congruence.{Cong, cong, _⨾_, back, cong-lt, cong-cancel, cong-0, is-0}
 use Rattle.algebra.specs.Search.{first-is, first-none, none-of, both-false, one-true}
 use Rattle.algebra.specs.Counting.{at-most-of, at-most-none, at-most-or, at-most-pairs}
-use Rattle.circuit.specs.Circuit.{Constraints, position, gate, Satisfies}
+use Rattle.circuit.specs.Circuit.{Constraints, position, lentConstraints, gate, Satisfies}
 use Rattle.circuit.specs.Positions.{by-position}
 use Rattle.protocol.specs.Protocol.{factor, wiredTag, brokenGate, brokenCopy, zeroFactor}
 
@@ -75,6 +76,11 @@ module _ (p n : ℕ) (C : Constraints) (x v : ℕ → ℕ) where
           never k (first (clashes k) 0 k) r l _ refl (first-is (clashes k) 0 k .hit (omega (arith, r)))
 
 -- 11
+
+pub zero-factor-labels : (p n : ℕ) (selectors other labels : List ℕ) (v : ℕ → ℕ) (beta gamma : ℕ)
+    → zeroFactor p n (lentConstraints n selectors labels) v beta gamma ≡ zeroFactor p n (lentConstraints n other labels) v beta gamma
+unfolding zeroFactor
+zero-factor-labels p n selectors other labels v beta gamma = refl
 
 module _ (p n : ℕ) (C : Constraints) (v : ℕ → ℕ) where
   -- the factor of D at position k is zero

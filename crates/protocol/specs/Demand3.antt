@@ -17,11 +17,12 @@
 -- Assumes nothing.
 use mathlib.Core.Path.{_≡_, sym, ap₂}
 use mathlib.Core.List.{List}
+use mathlib.Core.Option.{some}
 use Prim.Native.Nat.{ℕ, zero, suc, _*_, _-_, _/_, _%_, _<_}
 use native.Mathlib.Nat.{mod-lt, zero-lt-suc}
 use native.Mathlib.Omega.{arith}
 use Rattle.algebra.specs.Lists.{AtMost}
-use Rattle.algebra.specs.Polynomial.{eval, timesVanishing, Elements, SameP}
+use Rattle.algebra.specs.Polynomial.{coef, eval, timesVanishing, Elements, SameP}
 use Rattle.algebra.specs.Congruence.{Cong, cong, _⨾_, back, cong-mod}
 use Rattle.algebra.specs.Counting.{at-most-of}
 use Rattle.field.specs.Fields.{Admissible, point}
@@ -32,13 +33,14 @@ use Rattle.circuit.specs.Circuit.{Constraints, Circuit, position, Satisfies}
 use Rattle.circuit.specs.Buffers.{preparedLength, quotientLength, transcriptLength}
 use Rattle.circuit.specs.Positions.{position-column, position-row}
 use Rattle.circuit.specs.PublicBound.{public-bound}
-use Rattle.protocol.specs.Protocol.{fOf, rowZ, prepared, wiresOf, zOf, tOf, transcript, proved, pass, rowVerdict, accept, pointVerdict, zeroFactor}
+use Rattle.protocol.specs.Protocol.{fOf, prepared, wiresOf, zOf, tOf, transcript, proved, pass, rowVerdict, accept, pointVerdict, zeroFactor}
 use Rattle.protocol.specs.Lengths.{length-F-rows}
 use Rattle.protocol.specs.Layout.{prepared-elements, proved-elements}
 use Rattle.protocol.specs.Pairing.{few-pairs}
 use Rattle.protocol.specs.Challenges.{few-alphas, few-zetas}
 use Rattle.protocol.specs.Conditions.{factors-nonzero, few-zero-factors}
-use Rattle.protocol.specs.Completeness.{z-passes, t-holds, accepts}
+use Rattle.protocol.specs.GrandProduct.{GrandProduct}
+use Rattle.protocol.specs.Completeness.{rows, grand, z-passes, z, z-is, t-holds, laid, accepts}
 
 -- THE STATEMENT
 
@@ -79,13 +81,21 @@ module _ (p n : ℕ) (C : Constraints) (x : ℕ → ℕ) (wire : ℕ → List �
 
 -- an honest witness
 pub record Complete (p n : ℕ) (C : Constraints) (x v : ℕ → ℕ) (beta gamma : ℕ) : Type 0 where
-  -- z on the rows passes the row check
-  pub z-passes : rowVerdict p n C x v (rowZ p n C v beta gamma) beta gamma ≡ pass
+  -- there is a z on the rows, with z(i + 1) × D(i) = z(i) × N(i)
+  pub rows : List ℕ
+  pub grand : GrandProduct p n C v beta gamma rows
+  -- it passes the row check
+  pub z-passes : rowVerdict p n C x v (coef rows) beta gamma ≡ pass
+  -- its polynomial
+  pub z : List ℕ
+  pub z-is : zOf p n C v beta gamma ≡ some z
   -- t × (X^n - 1) is F
-  pub t-holds : (alpha : ℕ)
-      → SameP p (fOf p n C x (wiresOf p n v) (zOf p n C v beta gamma) beta gamma alpha) (timesVanishing p n (tOf p n C x v beta gamma alpha))
-  -- the point check accepts a, b, c, z and t
-  pub accepted : (alpha zeta : ℕ) → pointVerdict p n (prepared p n C) x (proved p n C x v beta gamma alpha) beta gamma alpha zeta ≡ accept
+  pub t-holds : (alpha : ℕ) → SameP p (fOf p n C x (wiresOf p n v) z beta gamma alpha) (timesVanishing p n (tOf p n C x v z beta gamma alpha))
+  -- a, b, c, z and t are the transcript that the prover lays
+  pub laid : (alpha : ℕ) → proved p n C x v beta gamma alpha ≡ some (transcript (wiresOf p n v) z (tOf p n C x v z beta gamma alpha))
+  -- the point check accepts it
+  pub accepted : (alpha zeta : ℕ)
+      → pointVerdict p n (prepared p n C) x (transcript (wiresOf p n v) z (tOf p n C x v z beta gamma alpha)) beta gamma alpha zeta ≡ accept
 
 pub record ZeroPair (p n : ℕ) (C : Constraints) (v : ℕ → ℕ) (pair : ℕ × ℕ) : Type 0 where
   pub beta-element : pair .0 < p
@@ -104,7 +114,7 @@ pub record Demand3 (p n l : ℕ) (C : Constraints) : Type 0 where
   pub zero-factors : (v : ℕ → ℕ) → AtMost (3 * n * p) (ZeroPair p n C v)
   -- preparing writes 8n elements, the prover lays 7n - 3
   pub prepared-long : Elements p (preparedLength n) (prepared p n C)
-  pub proved-long : (x v : ℕ → ℕ) (beta gamma alpha : ℕ) → Elements p (transcriptLength n) (proved p n C x v beta gamma alpha)
+  pub proved-long : (x v : ℕ → ℕ) (beta gamma alpha : ℕ) (T : List ℕ) → proved p n C x v beta gamma alpha ≡ some T → Elements p (transcriptLength n) T
 
 -- THE PROOF
 
@@ -148,8 +158,13 @@ module _ (q n : ℕ) (D : Domain (suc q) n) where
   complete C x v sat beta gamma e =
       let h = factors-nonzero p n C v beta gamma e in
       record {
+        rows = rows q n D C x v sat beta gamma h;
+        grand = grand q n D C x v sat beta gamma h;
         z-passes = z-passes q n D C x v sat beta gamma h;
+        z = z q n D C x v sat beta gamma h;
+        z-is = z-is q n D C x v sat beta gamma h;
         t-holds = t-holds q n D C x v sat beta gamma h;
+        laid = laid q n D C x v sat beta gamma h;
         accepted = accepts q n D C x v sat beta gamma h;
       }
 
@@ -160,9 +175,8 @@ module _ (q n : ℕ) (D : Domain (suc q) n) where
         soundness = sound C;
         completeness = complete C;
         zero-factors = λ v. at-most-of (few-zero-factors p n C v) (λ s h. (h .beta-element, h .gamma-element, h .zero-factor)) (omega arith);
-        prepared-long = prepared-elements p n C (zero-lt-suc q);
-        proved-long = λ x v beta gamma alpha.
-            proved-elements p n C x v beta gamma alpha (zero-lt-suc q) (omega (arith, rows-positive q n D));
+        prepared-long = prepared-elements D C;
+        proved-long = λ x v beta gamma alpha T. proved-elements D C x v beta gamma alpha T (omega (arith, rows-positive q n D));
       }
 
 pub demand-3 : (p n l : ℕ) → Admissible p n → (C : Constraints) → Circuit p n l C → Demand3 p n l C

@@ -13,24 +13,28 @@
 -- further                              every case is right
 --
 -- Assumes nothing.
-use mathlib.Core.Path.{_≡_, refl, sym}
+use mathlib.Core.Path.{_≡_, refl, ap, _∙_}
 use mathlib.Core.List.{List, [], _∷_, _++_}
-use Prim.Native.Nat.{ℕ, _*_, _%_, _<_}
+use mathlib.Core.Option.{Option, some}
+use Prim.Native.Nat.{ℕ, zero, suc, _*_, _%_, _<_}
+use native.Mathlib.Omega.{arith}
 use lib.Dec.{lit<}
 use lib.ListN.{length, getD}
-use Rattle.algebra.specs.Lists.{tab, All}
+use Rattle.algebra.specs.Lists.{tab, gathered, All}
+use Rattle.algebra.specs.Tables.{gathered-some}
 use Rattle.algebra.specs.Modular.{powF, first, inverse}
 use Rattle.algebra.specs.Congruence.{cong, back, cong-mod, _⨾_}
 use Rattle.algebra.specs.Powers.{powF-fast}
 use Rattle.algebra.specs.Primes.{inverse-only}
-use Rattle.algebra.specs.Polynomial.{quotientVanishing, reduced}
+use Rattle.algebra.specs.Polynomial.{coef, quotientVanishing, reduced}
 use Rattle.field.specs.Fields.{generator, root, point, multiplier, tag}
 use Rattle.field.specs.Primes.{prime-2013265921}
 use Rattle.transform.specs.Transform.{interpolation}
 use Rattle.circuit.specs.Circuit.{Constraints, lentConstraints, lentWitness, lentPublic, permutation, gate}
 use Rattle.circuit.specs.Reasons.{unboundRow}
-use Rattle.protocol.specs.Protocol.{rowN, rowD, rowZ, polyN, polyD, polyL, gatePart, stepPart, startPart, polyF, quotient, prepared, wiresOf, zOf, proved, RowVerdict, pass, fails, gateIdentity, startIdentity, stepIdentity, rowsFrom, rowAt, rowVerdict, PointVerdict, accept, reject, pointF, pointVerdict, brokenGate, brokenCopy, zeroFactor}
-use Rattle.protocol.specs.Worked.{numbers, rows, atPoint, Case, _&_}
+use Rattle.protocol.specs.Protocol.{nextZ, rowN, rowD, rowZ, zRows, polyN, polyD, polyL, gatePart, stepPart, startPart, polyF, quotient, prepared, wiresOf, zOf, proved, RowVerdict, pass, fails, gateIdentity, startIdentity, stepIdentity, rowsFrom, rowAt, rowVerdict, PointVerdict, accept, reject, pointF, pointVerdict, brokenGate, brokenCopy, zeroFactor}
+use Rattle.protocol.specs.GrandProduct.{z-laid}
+use Rattle.protocol.specs.Worked.{numbers, perhaps, rows, atPoint, Case, _&_}
 
 -- THE DEFINITIONS AT A SHEET
 
@@ -57,7 +61,7 @@ witness s = lentWitness (s .n) (s .contents)
 abbrev gates : Sheet → List ℕ
 gates s = tab (gate (s .p) (s .n) (constraints s) (publics s) (witness s)) (s .n)
 
-abbrev transcriptOf : Sheet → List ℕ
+abbrev transcriptOf : Sheet → Option (List ℕ)
 transcriptOf s = proved (s .p) (s .n) (constraints s) (publics s) (witness s) (s .beta) (s .gamma) (s .alpha)
 
 abbrev rowCheck : Sheet → List ℕ → RowVerdict
@@ -237,7 +241,7 @@ table =
     record { what = "17: gates with public inputs"; is = numbers (gates seventeen); should = numbers (0 ∷ 0 ∷ 0 ∷ 0 ∷ []) }
     ∷ record { what = "17: 14, 9, 10, 11 nowhere"; is = numbers (broken seventeen); should = numbers (2 ∷ 4 ∷ 12 ∷ 4 ∷ []) }
     ∷ record { what = "17: prepared"; is = numbers (prepared 17 4 (constraints seventeen)); should = numbers seventeenPrepared }
-    ∷ record { what = "17: transcript"; is = numbers (transcriptOf seventeen); should = numbers seventeenTranscript }
+    ∷ record { what = "17: transcript"; is = perhaps (transcriptOf seventeen); should = perhaps (some seventeenTranscript) }
     ∷ record { what = "17: row check"; is = rows (rowCheck seventeen (1 ∷ 11 ∷ 13 ∷ 9 ∷ [])); should = rows pass }
     ∷ record { what = "17: point check, zeta 4"; is = atPoint (pointCheck seventeen seventeenPrepared seventeenTranscript 4); should = atPoint accept }
     ∷ record { what = "17: row check, z(0) is 2"; is = rows (rowCheck seventeen (2 ∷ 11 ∷ 13 ∷ 9 ∷ [])); should = rows (fails startIdentity 0) }
@@ -252,14 +256,14 @@ table =
     ∷ record { what = "97: gates with public inputs"; is = numbers (gates ninetySeven); should = numbers (0 ∷ 0 ∷ 0 ∷ 0 ∷ []) }
     ∷ record { what = "97: 14, 9, 10, 11 nowhere"; is = numbers (broken ninetySeven); should = numbers (1 ∷ 4 ∷ 12 ∷ 4 ∷ []) }
     ∷ record { what = "97: prepared"; is = numbers (prepared 97 4 (constraints ninetySeven)); should = numbers ninetySevenPrepared }
-    ∷ record { what = "97: transcript"; is = numbers (transcriptOf ninetySeven); should = numbers ninetySevenTranscript }
+    ∷ record { what = "97: transcript"; is = perhaps (transcriptOf ninetySeven); should = perhaps (some ninetySevenTranscript) }
     ∷ record { what = "97: row check"; is = rows (rowCheck ninetySeven (1 ∷ 76 ∷ 88 ∷ 31 ∷ [])); should = rows pass }
     ∷ record { what = "97: point check, zeta 31"; is = atPoint (pointCheck ninetySeven ninetySevenPrepared ninetySevenTranscript 31); should = atPoint accept }
     ∷ record { what = "97, refused by 14: at row 2"; is = numbers (broken unbound); should = numbers (2 ∷ 2 ∷ 12 ∷ 4 ∷ []) }
     ∷ []
 
 right : All (λ r. r .is ≡ r .should) table
-unfolding unboundRow tab powF first inverse quotientVanishing reduced generator root point multiplier tag interpolation lentWitness permutation gate rowN rowD rowZ polyN polyD polyL gatePart stepPart startPart polyF quotient prepared rowsFrom pointVerdict brokenGate brokenCopy zeroFactor
+unfolding unboundRow tab gathered powF first inverse quotientVanishing reduced generator root point multiplier tag interpolation lentWitness permutation gate rowN rowD rowZ polyN polyD polyL gatePart stepPart startPart polyF quotient prepared rowsFrom pointVerdict brokenGate brokenCopy zeroFactor
 right = refl & refl & refl & refl & refl & refl & refl & refl & refl & refl & refl & refl & refl & refl & refl & refl & refl & refl & refl & refl & refl & refl & tt
 
 -- THE CASES OF THE LARGEST PRIME
@@ -272,21 +276,25 @@ root-4 : root 2013265921 4 ≡ 1728404513
 unfolding root generator
 root-4 = powF-fast 2013265921 32 31 503316480 (lit< tt)
 
-inverse-is : (x r : ℕ) → r < 2013265921 → x * r % 2013265921 ≡ 1 → inverse 2013265921 x ≡ r
-inverse-is x r h e = sym (inverse-only x r prime-2013265921 h (back cong-mod ⨾ cong e))
+inverse-is : (x r : ℕ) → r < 2013265921 → x * r % 2013265921 ≡ 1 → inverse 2013265921 x ≡ some r
+inverse-is x r h e = inverse-only x r prime-2013265921 h (back cong-mod ⨾ cong e)
 
-inverse-4 : inverse 2013265921 4 ≡ 1509949441
+inverse-4 : inverse 2013265921 4 ≡ some 1509949441
 inverse-4 = inverse-is 4 1509949441 (lit< tt) refl
 
 -- of D(0), D(1), D(2)
-inverse-D0 : inverse 2013265921 1022427386 ≡ 1329695279
+inverse-D0 : inverse 2013265921 1022427386 ≡ some 1329695279
 inverse-D0 = inverse-is 1022427386 1329695279 (lit< tt) refl
 
-inverse-D1 : inverse 2013265921 979458398 ≡ 538305855
+inverse-D1 : inverse 2013265921 979458398 ≡ some 538305855
 inverse-D1 = inverse-is 979458398 538305855 (lit< tt) refl
 
-inverse-D2 : inverse 2013265921 242013346 ≡ 826009675
+inverse-D2 : inverse 2013265921 242013346 ≡ some 826009675
 inverse-D2 = inverse-is 242013346 826009675 (lit< tt) refl
+
+-- z on the rows
+abbrev zNumbers : List ℕ
+zNumbers = 1 ∷ 176312996 ∷ 352415857 ∷ 1367991329 ∷ []
 
 abbrev pub largestTable : List Case
 largestTable =
@@ -296,11 +304,11 @@ largestTable =
     ∷ record { what = "14, 9, 10, 11 nowhere"; is = numbers (broken largest); should = numbers (2 ∷ 4 ∷ 12 ∷ 4 ∷ []) }
     ∷ record { what = "N"; is = numbers (tab (rowN 2013265921 4 (witness largest) (largest .beta) (largest .gamma)) 4); should = numbers (978481072 ∷ 662039115 ∷ 1617936002 ∷ 392445123 ∷ []) }
     ∷ record { what = "D"; is = numbers (tab (rowD 2013265921 4 (constraints largest) (witness largest) (largest .beta) (largest .gamma)) 4); should = numbers (1022427386 ∷ 979458398 ∷ 242013346 ∷ 293572783 ∷ []) }
-    ∷ record { what = "z on the rows"; is = numbers (tab (rowZ 2013265921 4 (constraints largest) (witness largest) (largest .beta) (largest .gamma)) 4); should = numbers (1 ∷ 176312996 ∷ 352415857 ∷ 1367991329 ∷ []) }
+    ∷ record { what = "z on the rows"; is = perhaps (zRows 2013265921 4 (constraints largest) (witness largest) (largest .beta) (largest .gamma)); should = perhaps (some zNumbers) }
     ∷ record { what = "row check"; is = rows (rowCheck largest (1 ∷ 176312996 ∷ 352415857 ∷ 1367991329 ∷ [])); should = rows pass }
     ∷ record { what = "prepared"; is = numbers (prepared 2013265921 4 (constraints largest)); should = numbers largestPrepared }
     ∷ record { what = "wires"; is = numbers (wiresOf 2013265921 4 (witness largest) 0 ++ (wiresOf 2013265921 4 (witness largest) 1 ++ wiresOf 2013265921 4 (witness largest) 2)); should = numbers (50190781 ∷ 1101224727 ∷ 819351192 ∷ 1999408925 ∷ 232282727 ∷ 1186754120 ∷ 1228580325 ∷ 1186754120 ∷ 676424581 ∷ 1409873175 ∷ 742612266 ∷ 201324222 ∷ []) }
-    ∷ record { what = "z"; is = numbers (zOf 2013265921 4 (constraints largest) (witness largest) (largest .beta) (largest .gamma)); should = numbers (977496526 ∷ 237887515 ∷ 1211977324 ∷ 1599170478 ∷ []) }
+    ∷ record { what = "z"; is = perhaps (zOf 2013265921 4 (constraints largest) (witness largest) (largest .beta) (largest .gamma)); should = perhaps (some (977496526 ∷ 237887515 ∷ 1211977324 ∷ 1599170478 ∷ [])) }
     ∷ record { what = "t, of the prepared constraints, the wires and z"; is = numbers (quotient 2013265921 4 (pointF 2013265921 4 largestPrepared (publics largest) largestTranscript (largest .beta) (largest .gamma) (largest .alpha))); should = numbers (1739109928 ∷ 1878052840 ∷ 329032804 ∷ 1100539225 ∷ 1847986093 ∷ 1539179246 ∷ 1638934222 ∷ 121264089 ∷ 1961147648 ∷ []) }
     ∷ record { what = "point check, zeta 2"; is = atPoint (pointCheck largest largestPrepared largestTranscript 2); should = atPoint accept }
     ∷ record { what = "refused by 10: at position 3"; is = numbers (broken largestPosition); should = numbers (1 ∷ 2 ∷ 3 ∷ 2 ∷ []) }
@@ -308,8 +316,48 @@ largestTable =
     ∷ record { what = "refused by 11: at row 1"; is = numbers (broken largestZero); should = numbers (1 ∷ 2 ∷ 6 ∷ 1 ∷ []) }
     ∷ []
 
+-- z on the rows, one after the other
+abbrev zLargest : ℕ → Option ℕ
+zLargest = rowZ 2013265921 4 (constraints largest) (witness largest) (largest .beta) (largest .gamma)
+
+-- z(i + 1) from z(i)
+abbrev nextLargest : ℕ → Option ℕ → Option ℕ
+nextLargest i z =
+    nextZ 2013265921 z (rowN 2013265921 4 (witness largest) (largest .beta) (largest .gamma) i) (rowD 2013265921 4 (constraints largest) (witness largest) (largest .beta) (largest .gamma) i)
+
+next-row : (i z r : ℕ) → zLargest i ≡ some z → nextLargest i (some z) ≡ some r → zLargest (suc i) ≡ some r
+unfolding rowZ
+next-row i z r e f = ap (nextLargest i) e ∙ f
+
+rows-1 : zLargest 1 ≡ some 176312996
+unfolding rowZ powF generator point multiplier tag lentWitness permutation rowN rowD first
+rows-1 = next-row 0 1 176312996 refl (rw (root-4, inverse-D0, nextZ, root-4))
+
+rows-2 : zLargest 2 ≡ some 352415857
+unfolding powF generator point multiplier tag lentWitness permutation rowN rowD first
+rows-2 = next-row 1 176312996 352415857 rows-1 (rw (root-4, inverse-D1, nextZ, root-4))
+
+rows-3 : zLargest 3 ≡ some 1367991329
+unfolding powF generator point multiplier tag lentWitness permutation rowN rowD first
+rows-3 = next-row 2 352415857 1367991329 rows-2 (rw (root-4, inverse-D2, nextZ, root-4))
+
+rows-largest : zRows 2013265921 4 (constraints largest) (witness largest) (largest .beta) (largest .gamma) ≡ some zNumbers
+unfolding tab rowZ
+rows-largest = gathered-some zLargest (λ i. getD zNumbers i 0) 4 by-row
+  where
+    by-row : (i : ℕ) → i < 4 → zLargest i ≡ some (getD zNumbers i 0)
+    by-row zero h = refl
+    by-row (suc zero) h = rows-1
+    by-row (suc (suc zero)) h = rows-2
+    by-row (suc (suc (suc zero))) h = rows-3
+    by-row (suc (suc (suc (suc i)))) h = absurd (omega arith)
+
+z-largest : interpolation 2013265921 4 (coef zNumbers) ≡ 977496526 ∷ 237887515 ∷ 1211977324 ∷ 1599170478 ∷ []
+unfolding tab powF generator point interpolation
+z-largest = rw (inverse-4, interpolation, root-4)
+
 largest-right : All (λ r. r .is ≡ r .should) largestTable
-unfolding unboundRow tab powF first quotientVanishing reduced generator point multiplier tag interpolation lentWitness permutation gate rowN rowD rowZ polyN polyD polyL gatePart stepPart startPart polyF quotient prepared rowsFrom pointVerdict brokenGate brokenCopy zeroFactor
+unfolding unboundRow tab gathered powF first quotientVanishing reduced generator point multiplier tag interpolation lentWitness permutation gate rowN rowD rowZ polyN polyD polyL gatePart stepPart startPart polyF quotient prepared rowsFrom pointVerdict brokenGate brokenCopy zeroFactor
 largest-right =
     (rw root-4)
     & refl
@@ -317,13 +365,13 @@ largest-right =
     & (rw root-4)
     & (rw root-4)
     & (rw root-4)
-    & (rw (root-4, inverse-D0, inverse-D1, inverse-D2))
+    & ap perhaps rows-largest
     & (rw (root-4, rowAt, root-4, rowAt, root-4, rowAt, root-4, rowAt))
-    & (rw (root-4, inverse-4))
-    & (rw (root-4, inverse-4))
-    & (rw (root-4, inverse-4, inverse-D0, inverse-D1, inverse-D2))
-    & (rw (root-4, inverse-4))
-    & (rw (root-4, inverse-4, pointVerdict))
+    & (rw (inverse-4, interpolation, root-4))
+    & (rw (inverse-4, interpolation, root-4))
+    & ap perhaps (z-laid 2013265921 4 (constraints largest) (witness largest) (largest .beta) (largest .gamma) zNumbers rows-largest ∙ ap {B = Option (List ℕ)} some z-largest)
+    & (rw (inverse-4, interpolation, root-4, polyL))
+    & (rw (inverse-4, interpolation, root-4, polyL, pointVerdict))
     & (rw root-2)
     & (rw (root-2, rowAt, root-2, rowAt))
     & (rw root-2)

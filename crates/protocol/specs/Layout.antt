@@ -9,19 +9,20 @@
 -- Assumes nothing.
 use mathlib.Core.Path.{_≡_, refl, sym, ap, _∙_, subst}
 use mathlib.Core.List.{List, [], _++_, append-nil}
-use Prim.Native.Nat.{ℕ, zero, suc, _+_, _*_, _-_, _≤_, _<_}
+use mathlib.Core.Option.{Option, none, some, Option·map, Option·some-injective, Option·none-ne-some}
+use Prim.Native.Nat.{ℕ, zero, suc, _+_, _*_, _≤_, _<_}
 use native.Mathlib.Nat.{zero-mul}
 use native.Mathlib.Omega.{arith}
 use lib.ListN.{length, take, drop}
 use lib.Seq.{take-at, drop-at, drop-drop}
-use Rattle.algebra.specs.Polynomial.{Elements}
+use Rattle.algebra.specs.Polynomial.{coef, Elements}
 use Rattle.algebra.specs.PolynomialLaws.{append-elements, reduced-elements}
+use Rattle.field.specs.Domain.{Domain}
 use Rattle.transform.specs.Transform.{interpolation}
 use Rattle.transform.specs.Interpolation.{interpolation-elements}
 use Rattle.circuit.specs.Circuit.{Constraints}
 use Rattle.circuit.specs.Buffers.{preparedLength, wireLength, zLength, quotientLength, transcriptLength, zStart, preparedPart, wirePart, zPart, tPart}
-use Rattle.protocol.specs.Protocol.{fOf, polyN, polyD, gatePart, stepPart, polyF, quotient, preparedPoly, prepared, wiresOf, transcript, proved, pointF}
-use Rattle.protocol.specs.Lengths.{interpolation-length}
+use Rattle.protocol.specs.Protocol.{fOf, polyN, polyD, gatePart, stepPart, polyF, quotient, preparedPoly, prepared, zRows, wiresOf, tOf, transcript, proved, pointF}
 
 -- LISTS END TO END
 
@@ -57,7 +58,7 @@ before-elements {p} {n} {m} f (suc c) {r} h e =
 
 -- THE PREPARED CIRCUIT
 
-module _ (p n : ℕ) (C : Constraints) where
+module _ {p n : ℕ} (D : Domain p n) (C : Constraints) where
   prepared-before : prepared p n C ≡ laidBefore (preparedPoly p n C) 8 []
   unfolding prepared
   prepared-before = ap (laidBefore (preparedPoly p n C) 7) (sym (append-nil (preparedPoly p n C 7)))
@@ -65,13 +66,13 @@ module _ (p n : ℕ) (C : Constraints) where
   pub prepared-part : (s : ℕ) → s < 8 → preparedPart n s (prepared p n C) ≡ preparedPoly p n C s
   prepared-part s l =
       ap (preparedPart n s) prepared-before
-      ∙ before-part n (preparedPoly p n C) 8 [] (λ s l. interpolation-length p n _) s l
+      ∙ before-part n (preparedPoly p n C) 8 [] (λ s l. interpolation-elements D _ .long) s l
 
-  pub prepared-elements : 0 < p → Elements p (preparedLength n) (prepared p n C)
-  prepared-elements z =
+  pub prepared-elements : Elements p (preparedLength n) (prepared p n C)
+  prepared-elements =
       subst (Elements p (8 * n)) (sym prepared-before)
       (subst (λ (k : ℕ). Elements p k (laidBefore (preparedPoly p n C) 8 [])) (omega arith)
-      (before-elements (preparedPoly p n C) 8 (λ s. interpolation-elements n _ z) record { long = refl; below = tt }))
+      (before-elements (preparedPoly p n C) 8 (λ s. interpolation-elements D _) record { long = refl; below = tt }))
 
 -- THE TRANSCRIPT
 
@@ -87,14 +88,24 @@ module _ (n : ℕ) (wire : ℕ → List ℕ) (z t : List ℕ) (lw : (c : ℕ) �
       sym (drop-drop (zLength n) (zStart n) (transcript wire z t))
       ∙ ap (drop (zLength n)) (before-rest (wireLength n) wire 3 (z ++ t) lw) ∙ drop-at z t (zLength n) h
 
-pub proved-elements : (p n : ℕ) (C : Constraints) (x v : ℕ → ℕ) (beta gamma alpha : ℕ) → 0 < p → 1 ≤ n
-    → Elements p (transcriptLength n) (proved p n C x v beta gamma alpha)
+pub proved-elements : {p n : ℕ} → Domain p n → (C : Constraints) (x v : ℕ → ℕ) (beta gamma alpha : ℕ) (T : List ℕ) → 1 ≤ n
+    → proved p n C x v beta gamma alpha ≡ some T → Elements p (transcriptLength n) T
 unfolding quotient
-proved-elements p n C x v beta gamma alpha z h =
-    let count : zStart n + (zLength n + quotientLength n) ≡ transcriptLength n = omega arith in
-    subst (λ (m : ℕ). Elements p m (proved p n C x v beta gamma alpha)) count
-    (before-elements (wiresOf p n v) 3 (λ c. interpolation-elements n _ z)
-    (append-elements (interpolation-elements n _ z) (reduced-elements (quotientLength n) _ z)))
+proved-elements {p} {n} D C x v beta gamma alpha T h = go (zRows p n C v beta gamma)
+  where
+    with : List ℕ → List ℕ
+    with z = transcript (wiresOf p n v) z (tOf p n C x v z beta gamma alpha)
+
+    laid : (z : List ℕ) → Elements p n z → Elements p (transcriptLength n) (with z)
+    laid z e =
+        let count : zStart n + (zLength n + quotientLength n) ≡ transcriptLength n = omega arith in
+        subst (λ (m : ℕ). Elements p m (with z)) count
+        (before-elements (wiresOf p n v) 3 (λ c. interpolation-elements D _)
+        (append-elements e (reduced-elements (quotientLength n) _ (omega (arith, D .prime .two)))))
+
+    go : (o : Option (List ℕ)) → Option·map with (Option·map (λ rows. interpolation p n (coef rows)) o) ≡ some T → Elements p (transcriptLength n) T
+    go none e = absurd (Option·none-ne-some T e)
+    go (some rows) e = subst (Elements p (transcriptLength n)) (Option·some-injective _ T e) (laid _ (interpolation-elements D (coef rows)))
 
 -- F AS IT IS LENT
 
@@ -106,10 +117,10 @@ unfolding polyF gatePart stepPart polyN polyD
 F-ext p n pre pre′ wire wire′ x z beta gamma alpha h k =
     rw (h 0 (omega arith), h 1 (omega arith), h 2 (omega arith), h 3 (omega arith), h 4 (omega arith), h 5 (omega arith), h 6 (omega arith), h 7 (omega arith), k 0 (omega arith), k 1 (omega arith), k 2 (omega arith))
 
-pub lent-F : (p n : ℕ) (C : Constraints) (x : ℕ → ℕ) (wire : ℕ → List ℕ) (z t : List ℕ) → ((c : ℕ) → c < 3 → length (wire c) ≡ wireLength n) → length z ≡ zLength n
+pub lent-F : {p n : ℕ} → Domain p n → (C : Constraints) (x : ℕ → ℕ) (wire : ℕ → List ℕ) (z t : List ℕ) → ((c : ℕ) → c < 3 → length (wire c) ≡ wireLength n) → length z ≡ zLength n
     → (beta gamma alpha : ℕ)
     → pointF p n (prepared p n C) x (transcript wire z t) beta gamma alpha
     ≡ fOf p n C x wire z beta gamma alpha
-lent-F p n C x wire z t lw lz beta gamma alpha =
-    F-ext p n _ (preparedPoly p n C) _ wire (interpolation p n x) _ beta gamma alpha (prepared-part p n C) (wire-part n wire z t lw)
+lent-F {p} {n} D C x wire z t lw lz beta gamma alpha =
+    F-ext p n _ (preparedPoly p n C) _ wire (interpolation p n x) _ beta gamma alpha (prepared-part D C) (wire-part n wire z t lw)
     ∙ ap (λ (y : List ℕ). fOf p n C x wire y beta gamma alpha) (z-part n wire z t lw lz)

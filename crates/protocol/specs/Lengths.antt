@@ -5,23 +5,23 @@
 -- short-in                           a larger bound
 -- short-gate, short-step, short-start   of the three parts of F
 -- short-F                            F has at most 3a + b + 1 coefficients, for wires of a + 1 and z of b + 1
--- interpolation-length               an interpolation has n coefficients
 -- length-F                           F of constraints has at most 3a + b + 1 coefficients, for wires of a + 1 and z of b + 1
 -- length-F-rows                      at most 4n - 3, for wires and z of n
 --
--- The prepared polynomials, L and the polynomial of the public inputs have n = r + 1 coefficients, and the wires no fewer.
+-- The prepared polynomials, L and the polynomial of the public inputs have at most n = r + 1 coefficients, and the wires may have more.
 -- Assumes nothing.
 use mathlib.Core.Path.{_≡_}
 use mathlib.Core.List.{List, [], _∷_}
+use mathlib.Core.Option.{Option, none, some}
 use Prim.Native.Nat.{ℕ, zero, suc, _+_, _*_, _-_, _≤_, _<_}
 use native.Mathlib.Omega.{arith}
-use lib.ListN.{length, length-replicate}
+use lib.ListN.{length, replicate, length-replicate}
 use Rattle.algebra.specs.Modular.{inverse}
 use Rattle.algebra.specs.Polynomial.{addP, scaleP, mulP, dilate}
 use Rattle.algebra.specs.PolynomialLaws.{length-add, length-scale, length-mul, length-dilate}
-use Rattle.algebra.specs.Tables.{length-tab}
 use Rattle.field.specs.Fields.{root, multiplier}
 use Rattle.transform.specs.Transform.{interpolation}
+use Rattle.transform.specs.Interpolation.{interpolation-most}
 use Rattle.circuit.specs.Circuit.{Constraints}
 use Rattle.protocol.specs.Protocol.{fOf, _⊕_, polyN, polyD, polyL, gatePart, stepPart, startPart, polyF, preparedPoly}
 
@@ -42,6 +42,11 @@ short-mul {a} {b} {f} {g} h k = record { short = omega (arith, length-mul f g, h
 
 pub short-dilate : {d : ℕ} {f : List ℕ} (w : ℕ) → Short d f → Short d (dilate w f)
 short-dilate {d} {f} w a = record { short = omega (arith, length-dilate w f, a .short) }
+
+-- L, o being the inverse of n
+short-L : (r : ℕ) (o : Option ℕ) → Short (suc r) (elim o [ none ↦ [] | some c ↦ replicate (suc r) c ])
+short-L r none = record { short = omega arith }
+short-L r (some c) = record { short = omega (arith, length-replicate (suc r) c) }
 
 module _ (p r a b : ℕ) (some : 1 ≤ a) (more : r ≤ a) (pre wire : ℕ → List ℕ) (hp : (s : ℕ) → s < 8 → Short (suc r) (pre s))
     (hw : (c : ℕ) → c < 3 → Short (suc a) (wire c)) where
@@ -77,7 +82,7 @@ module _ (p r a b : ℕ) (some : 1 ≤ a) (more : r ≤ a) (pre wire : ℕ → L
     unfolding startPart polyL
     short-start =
         short-in _
-        (short-mul {a = b} {b = r} (short-add hz record { short = omega arith }) record { short = omega (arith, length-replicate (suc r) (inverse p (suc r))) })
+        (short-mul {a = b} {b = r} (short-add hz record { short = omega arith }) (short-L r (inverse p (suc r))))
         (omega arith)
 
     pub short-F : (x : List ℕ) → Short (suc r) x → (beta gamma alpha : ℕ) → Short (suc (3 * a + b)) (polyF p (suc r) pre wire x z beta gamma alpha)
@@ -89,12 +94,8 @@ module _ (p r a b : ℕ) (some : 1 ≤ a) (more : r ≤ a) (pre wire : ℕ → L
 
 -- F OF CONSTRAINTS
 
-pub interpolation-length : (p n : ℕ) (v : ℕ → ℕ) → length (interpolation p n v) ≡ n
-unfolding interpolation
-interpolation-length p n v = length-tab _ n
-
 interpolation-short : (p n : ℕ) (v : ℕ → ℕ) → Short n (interpolation p n v)
-interpolation-short p n v = record { short = omega (arith, interpolation-length p n v) }
+interpolation-short p n v = record { short = interpolation-most p n v }
 
 pub length-F : (p n a b : ℕ) (C : Constraints) (x : ℕ → ℕ) (wire : ℕ → List ℕ) (z : List ℕ) → 2 ≤ n → n ≤ suc a
     → ((c : ℕ) → c < 3 → length (wire c) ≤ suc a) → length z ≤ suc b

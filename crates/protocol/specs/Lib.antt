@@ -12,6 +12,7 @@ pub mod Pairing
 pub mod Points
 pub mod Challenges
 pub mod Conditions
+pub mod GrandProduct
 pub mod Quotients
 pub mod Completeness
 pub mod Demand3

@@ -16,6 +16,7 @@ use lib.ListN.{length, take}
 use lib.Seq.{take-at}
 use denote.Ref.{RefT, now}
 use borrow.Author.Tests.{le-leb, eq-eqb}
+use Rattle.field.specs.Domain.{Domain}
 use Rattle.circuit.specs.Circuit.{Constraints}
 use Rattle.circuit.specs.Buffers.{preparedLength, wireLength, zLength, quotientLength, transcriptLength, preparedPart, wirePart, zPart, tPart}
 use Rattle.circuit.specs.Promises.{anyRows, Part, preparedPlace, numberedPart, polynomialPart, Hands}
@@ -30,11 +31,11 @@ module _ (n : ℕ) (pre lent r : RefT (List ℕ)) where
       let is : polynomialPart n k pre lent ≡ numberedPart n k pre lent = rw (a, eq-eqb (length (now pre)) (preparedLength n) b, eq-eqb (length (now lent)) (transcriptLength n) c) in
       subst (λ (P : Part). Hands P r) is H
 
-  pub numbered-prepared : (p : ℕ) (C : Constraints) → now pre ≡ prepared p n C → (k : ℕ) → k < 8 → Hands (numberedPart n k pre lent) r
+  pub numbered-prepared : {p : ℕ} → Domain p n → (C : Constraints) → now pre ≡ prepared p n C → (k : ℕ) → k < 8 → Hands (numberedPart n k pre lent) r
       → now r ≡ preparedPoly p n C k
-  numbered-prepared p C e k l H =
+  numbered-prepared D C e k l H =
       let is : numberedPart n k pre lent ≡ preparedPlace n k pre = rw (le-leb k 7 (omega arith)) in
-      subst (λ (P : Part). Hands P r) is H .numbers ∙ ap (preparedPart n k) e ∙ prepared-part p n C k l
+      subst (λ (P : Part). Hands P r) is H .numbers ∙ ap (preparedPart n k) e ∙ prepared-part D C k l
 
   module _ (wire : ℕ → List ℕ) (z t : List ℕ) (lw : (c : ℕ) → c < 3 → length (wire c) ≡ wireLength n) (e : now lent ≡ transcript wire z t) where
     pub numbered-wire : (c : ℕ) → c < 3 → Hands (numberedPart n (8 + c) pre lent) r → now r ≡ wire c

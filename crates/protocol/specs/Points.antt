@@ -16,12 +16,13 @@ use borrow.Author.Tests.{eqb-true, eq-eqb}
 use Rattle.algebra.specs.Polynomial.{eval, timesVanishing}
 use Rattle.algebra.specs.Congruence.{Cong, cong, _⨾_}
 use Rattle.algebra.specs.Division.{eval-vanishing}
+use Rattle.field.specs.Domain.{Domain}
 use Rattle.circuit.specs.Circuit.{Constraints}
 use Rattle.circuit.specs.Buffers.{tPart}
 use Rattle.protocol.specs.Protocol.{fOf, prepared, transcript, accept, reject, pointF, pointVerdict}
 use Rattle.protocol.specs.Layout.{t-part, lent-F}
 
-module _ (q n : ℕ) (C : Constraints) (x : ℕ → ℕ) (wire : ℕ → List ℕ) (z t : List ℕ) (lw : (c : ℕ) → c < 3 → length (wire c) ≡ n) (lz : length z ≡ n)
+module _ (q n : ℕ) (D : Domain (suc q) n) (C : Constraints) (x : ℕ → ℕ) (wire : ℕ → List ℕ) (z t : List ℕ) (lw : (c : ℕ) → c < 3 → length (wire c) ≡ n) (lz : length z ≡ n)
     (beta gamma alpha zeta : ℕ) where
   abbrev p : ℕ
   p = suc q
@@ -34,7 +35,7 @@ module _ (q n : ℕ) (C : Constraints) (x : ℕ → ℕ) (wire : ℕ → List �
   right = eval (tPart n (transcript wire z t)) zeta * (zeta ^ n + q)
 
   left-is : left ≡ eval (fOf (suc q) n C x wire z beta gamma alpha) zeta
-  left-is = ap (λ (f : List ℕ). eval f zeta) (lent-F p n C x wire z t lw lz beta gamma alpha)
+  left-is = ap (λ (f : List ℕ). eval f zeta) (lent-F D C x wire z t lw lz beta gamma alpha)
 
   right-is : right ≡ eval (timesVanishing (suc q) n t) zeta
   right-is =

@@ -2,7 +2,8 @@
 --
 -- circuit, publics, witness       the sheet of document 01: prime 17, two rows, no public inputs; beta, gamma, alpha, zeta are 1, 1, 2, 2
 -- lastIs11, rowIs5-7-12           the witness with the last value 11, and with row 1 as 5, 7, 12
--- Value, Case                     a number, numbers, an answer or a verdict; what a case is about, what the definitions make of it, what document 01 says
+-- zWorked, transcriptWorked       z at beta 1, gamma 1; the transcript at alpha 2
+-- Value, Case                     a number, an inverse, numbers, numbers if there are any, an answer or a verdict; what a case is about, what the definitions make of it, what document 01 says
 -- _&_                             proofs of the rows of a table, one after the other
 -- table                           the cases
 -- Worked                          the statement: every case is right, and where the contents disagree no z passes the row check
@@ -13,12 +14,13 @@ use mathlib.Core.Path.{_≡_, refl, _∙_}
 use mathlib.Core.Logic.{_≢_}
 use mathlib.Core.Bool.{Bool, true, false, not}
 use mathlib.Core.List.{List, [], _∷_}
+use mathlib.Core.Option.{Option, none, some}
 use Prim.Native.Nat.{ℕ, _+_, _*_, _^_, _%_, pred}
 use Prim.Native.String.{String}
 use native.Mathlib.Omega.{arith}
 use lib.Dec.{eqb}
 use borrow.Author.Tests.{eqb-true}
-use Rattle.algebra.specs.Lists.{tab, All}
+use Rattle.algebra.specs.Lists.{tab, gathered, All}
 use Rattle.algebra.specs.Modular.{powF, first, inverse}
 use Rattle.algebra.specs.Polynomial.{eval, quotientVanishing, reduced}
 use Rattle.field.specs.declared.Answer.{Answer}
@@ -26,7 +28,7 @@ use Rattle.field.specs.Fields.{generator, root, point, multiplier, tag}
 use Rattle.field.specs.Reasons.{answerOf}
 use Rattle.transform.specs.Transform.{interpolation}
 use Rattle.circuit.specs.Circuit.{Constraints, lentConstraints, lentWitness, lentPublic, permutation, gate}
-use Rattle.protocol.specs.Protocol.{rowN, rowD, rowZ, polyN, polyD, polyL, gatePart, stepPart, startPart, polyF, quotient, preparedPoly, prepared, wiresOf, zOf, tOf, proved, RowVerdict, pass, fails, startIdentity, stepIdentity, rowsFrom, rowVerdict, PointVerdict, accept, pointVerdict, brokenGate, brokenCopy, zeroFactor, witnessReasons}
+use Rattle.protocol.specs.Protocol.{rowN, rowD, rowZ, zRows, polyN, polyD, polyL, gatePart, stepPart, startPart, polyF, quotient, preparedPoly, prepared, wiresOf, zOf, tOf, proved, RowVerdict, pass, fails, startIdentity, stepIdentity, rowsFrom, rowVerdict, PointVerdict, accept, pointVerdict, brokenGate, brokenCopy, zeroFactor, witnessReasons}
 
 -- THE SHEET
 
@@ -45,18 +47,26 @@ lastIs11 = lentWitness 2 (2 ∷ 6 ∷ 3 ∷ 6 ∷ 6 ∷ 11 ∷ [])
 abbrev pub rowIs5-7-12 : ℕ → ℕ
 rowIs5-7-12 = lentWitness 2 (2 ∷ 5 ∷ 3 ∷ 7 ∷ 6 ∷ 12 ∷ [])
 
--- F and t at beta 1, gamma 1, alpha 2
+-- z at beta 1, gamma 1; the transcript, F and t at alpha 2
+abbrev pub zWorked : List ℕ
+zWorked = 16 ∷ 2 ∷ []
+
+abbrev pub transcriptWorked : List ℕ
+transcriptWorked = 4 ∷ 15 ∷ 13 ∷ 7 ∷ 9 ∷ 14 ∷ 16 ∷ 2 ∷ 9 ∷ 12 ∷ 15 ∷ []
+
 abbrev F : List ℕ
-F = polyF 17 2 (preparedPoly 17 2 circuit) (wiresOf 17 2 witness) (interpolation 17 2 publics) (zOf 17 2 circuit witness 1 1) 1 1 2
+F = polyF 17 2 (preparedPoly 17 2 circuit) (wiresOf 17 2 witness) (interpolation 17 2 publics) zWorked 1 1 2
 
 abbrev t : List ℕ
-t = tOf 17 2 circuit publics witness 1 1 2
+t = tOf 17 2 circuit publics witness zWorked 1 1 2
 
 -- THE TABLE
 
 pub data Value : Type 0 where
   number : ℕ → Value
+  inverted : Option ℕ → Value
   numbers : List ℕ → Value
+  perhaps : Option (List ℕ) → Value
   answer : Answer → Value
   rows : RowVerdict → Value
   atPoint : PointVerdict → Value
@@ -77,7 +87,7 @@ table =
     ∷ record { what = "wiring"; is = numbers (tab (permutation 6 (circuit .label)) 6); should = numbers (0 ∷ 3 ∷ 2 ∷ 4 ∷ 1 ∷ 5 ∷ []) }
     ∷ record { what = "N"; is = numbers (tab (rowN 17 2 witness 1 1) 2); should = numbers (6 ∷ 11 ∷ []) }
     ∷ record { what = "D"; is = numbers (tab (rowD 17 2 circuit witness 1 1) 2); should = numbers (15 ∷ 1 ∷ []) }
-    ∷ record { what = "z on the rows"; is = numbers (tab (rowZ 17 2 circuit witness 1 1) 2); should = numbers (1 ∷ 14 ∷ []) }
+    ∷ record { what = "z on the rows"; is = perhaps (zRows 17 2 circuit witness 1 1); should = perhaps (some (1 ∷ 14 ∷ [])) }
     ∷ record { what = "F(2)"; is = number (eval F 2 % 17); should = number 7 }
     ∷ record { what = "t(2)"; is = number (eval t 2 % 17); should = number 8 }
     ∷ record { what = "2^2 - 1"; is = number ((2 ^ 2 + pred 17) % 17); should = number 3 }
@@ -86,13 +96,16 @@ table =
     ∷ record { what = "row 1 as 5,7,12: 10, detail 3"; is = answer (answerOf (witnessReasons 17 2 circuit publics rowIs5-7-12 1 1)); should = answer (record { number = 10; detail = 3 }) }
     ∷ record { what = "row 1 as 5,7,12, beta 0, gamma 1: z = 1"; is = rows (rowVerdict 17 2 circuit publics rowIs5-7-12 (λ i. 1) 0 1); should = rows pass }
     ∷ record { what = "gamma 14: 11, detail 0"; is = answer (answerOf (witnessReasons 17 2 circuit publics witness 1 14)); should = answer (record { number = 11; detail = 0 }) }
+    ∷ record { what = "gamma 14: D(0) is 0, so there is no z"; is = perhaps (zRows 17 2 circuit witness 1 14); should = perhaps none }
+    ∷ record { what = "gamma 14: and no transcript"; is = perhaps (proved 17 2 circuit publics witness 1 14 2); should = perhaps none }
     ∷ record { what = "gamma 2: 11, detail 1"; is = answer (answerOf (witnessReasons 17 2 circuit publics witness 1 2)); should = answer (record { number = 11; detail = 1 }) }
     ∷ record { what = "a"; is = numbers (wiresOf 17 2 witness 0); should = numbers (4 ∷ 15 ∷ []) }
     ∷ record { what = "b"; is = numbers (wiresOf 17 2 witness 1); should = numbers (13 ∷ 7 ∷ []) }
     ∷ record { what = "c"; is = numbers (wiresOf 17 2 witness 2); should = numbers (9 ∷ 14 ∷ []) }
-    ∷ record { what = "z"; is = numbers (zOf 17 2 circuit witness 1 1); should = numbers (16 ∷ 2 ∷ []) }
+    ∷ record { what = "z"; is = perhaps (zOf 17 2 circuit witness 1 1); should = perhaps (some zWorked) }
     ∷ record { what = "t"; is = numbers t; should = numbers (9 ∷ 12 ∷ 15 ∷ []) }
-    ∷ record { what = "zeta 2"; is = atPoint (pointVerdict 17 2 (prepared 17 2 circuit) publics (proved 17 2 circuit publics witness 1 1 2) 1 1 2 2); should = atPoint accept }
+    ∷ record { what = "the transcript"; is = perhaps (proved 17 2 circuit publics witness 1 1 2); should = perhaps (some transcriptWorked) }
+    ∷ record { what = "zeta 2"; is = atPoint (pointVerdict 17 2 (prepared 17 2 circuit) publics transcriptWorked 1 1 2 2); should = atPoint accept }
     ∷ []
 
 -- THE STATEMENT
@@ -103,8 +116,8 @@ pub record Worked : Type 0 where
   pub no-z : (z : ℕ → ℕ) → rowVerdict 17 2 circuit publics rowIs5-7-12 z 1 1 ≢ pass
 
 right : All (λ r. r .is ≡ r .should) table
-unfolding tab powF first inverse quotientVanishing reduced generator root point multiplier tag interpolation lentWitness permutation gate rowN rowD rowZ polyN polyD polyL gatePart stepPart startPart polyF quotient prepared rowsFrom pointVerdict brokenGate brokenCopy zeroFactor
-right = refl & refl & refl & refl & refl & refl & refl & refl & refl & refl & refl & refl & refl & refl & refl & refl & refl & refl & refl & refl & tt
+unfolding tab gathered powF first inverse quotientVanishing reduced generator root point multiplier tag interpolation lentWitness permutation gate rowN rowD rowZ polyN polyD polyL gatePart stepPart startPart polyF quotient prepared rowsFrom pointVerdict brokenGate brokenCopy zeroFactor
+right = refl & refl & refl & refl & refl & refl & refl & refl & refl & refl & refl & refl & refl & refl & refl & refl & refl & refl & refl & refl & refl & refl & refl & tt
 
 -- N is 6, 15 and D is 15, 0: the two steps ask for z(1) × 15 to be 6, and to be 0
 abbrev byTests : Bool → Bool → Bool → RowVerdict

@@ -2,7 +2,7 @@
 --
 -- lentF         F of a lent circuit that is prepared, public inputs, and a, b, c, z as they are laid
 -- Ready         p and n are admissible; selectors, labels, public inputs, challenges and scratch are lent rightly
--- Front         the same of labels, witness and transcript
+-- Front         the same of labels, witness and transcript; and no factor of any D(i) is zero
 -- Checked       what the public call has checked
 -- checked-of    it has, where no reason applies
 -- laid-F        F of a, b, c, z laid end to end is F of these polynomials
@@ -15,14 +15,16 @@ use lib.ListN.{length, getD}
 use Rattle.algebra.specs.Lists.{All}
 use Rattle.algebra.specs.Polynomial.{Elements}
 use Rattle.field.specs.Fields.{Admissible}
+use Rattle.field.specs.Domain.{Domain}
 use Rattle.transform.specs.Transform.{scratchLength}
+use Rattle.transform.specs.Interpolation.{interpolation-elements}
 use Rattle.circuit.specs.Circuit.{Constraints, lentConstraints, lentPublic}
-use Rattle.circuit.specs.Buffers.{selectorsLength, labelsLength, witnessLength, transcriptLength}
+use Rattle.circuit.specs.Buffers.{selectorsLength, labelsLength, witnessLength, zLength, transcriptLength}
 use Rattle.circuit.specs.RightlyLent.{selectors-right, labels-right}
-use Rattle.protocol.specs.Protocol.{prepared, pointF, fOf, wiresOf, zOf, transcript}
+use Rattle.protocol.specs.Protocol.{prepared, pointF, fOf, wiresOf}
 use Rattle.protocol.specs.Layout.{lent-F}
-use Rattle.protocol.specs.Lengths.{interpolation-length}
-use Rattle.laying.specs.Rows.{laidRows}
+use Rattle.protocol.specs.Conditions.{zero-factor-labels}
+use Rattle.laying.specs.Buffers.{NoZero}
 use Rattle.witnesses.specs.Accepted.{Accepted}
 
 abbrev pub lentF : (p n : ℕ) (selectors labels publics laid challenges : List ℕ) → List ℕ
@@ -44,6 +46,7 @@ pub record Front (p n : ℕ) (labels witness transcript challenges scratch : Lis
   pub transcript-long : length transcript ≡ transcriptLength n
   pub challenges-long : length challenges ≡ 3
   pub scratch-long : length scratch ≡ scratchLength n
+  pub no-zero : NoZero p n labels witness (getD challenges 0 0) (getD challenges 1 0)
 
 pub record Checked (p n : ℕ) (selectors labels witness publics transcript challenges scratch : List ℕ) : Type 0 where
   pub ready : Ready p n selectors labels publics challenges scratch
@@ -52,7 +55,7 @@ pub record Checked (p n : ℕ) (selectors labels witness publics transcript chal
 pub checked-of : {p n l : ℕ} {selectors labels witness publics transcript challenges scratch : List ℕ}
     → Accepted p n l selectors labels witness publics transcript challenges scratch
     → Checked p n selectors labels witness publics transcript challenges scratch
-checked-of A =
+checked-of {p} {n} {l} {selectors} {labels} A =
     record {
       ready = record {
         admissible = A .admissible;
@@ -69,13 +72,14 @@ checked-of A =
         transcript-long = A .transcript-long;
         challenges-long = A .challenges-right .long;
         scratch-long = A .scratch-long;
+        no-zero = λ other. zero-factor-labels p n other selectors labels _ _ _ ∙ A .no-zero;
       };
     }
 
-pub laid-F : (p n : ℕ) (C : Constraints) (x v : ℕ → ℕ) (beta gamma alpha : ℕ)
-    → pointF p n (prepared p n C) x (laidRows p n C v beta gamma) beta gamma alpha
-    ≡ fOf p n C x (wiresOf p n v) (zOf p n C v beta gamma) beta gamma alpha
-laid-F p n C x v beta gamma alpha =
+pub laid-F : {p n : ℕ} → Domain p n → (C : Constraints) (x v : ℕ → ℕ) (z : List ℕ) → length z ≡ zLength n → (beta gamma alpha : ℕ)
+    → pointF p n (prepared p n C) x (wiresOf p n v 0 ++ (wiresOf p n v 1 ++ (wiresOf p n v 2 ++ z))) beta gamma alpha
+    ≡ fOf p n C x (wiresOf p n v) z beta gamma alpha
+laid-F {p} {n} D C x v z lz beta gamma alpha =
     ap (λ (l : List ℕ). pointF p n (prepared p n C) x (wiresOf p n v 0 ++ (wiresOf p n v 1 ++ (wiresOf p n v 2 ++ l))) beta gamma alpha)
-    (sym (append-nil (zOf p n C v beta gamma)))
-    ∙ lent-F p n C x (wiresOf p n v) (zOf p n C v beta gamma) [] (λ c h. interpolation-length p n _) (interpolation-length p n _) beta gamma alpha
+    (sym (append-nil z))
+    ∙ lent-F D C x (wiresOf p n v) z [] (λ c h. interpolation-elements D _ .long) lz beta gamma alpha

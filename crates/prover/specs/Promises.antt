@@ -1,12 +1,13 @@
 -- What `prove` promises.
 --
--- provedFrom    the transcript that the prover lays for lent buffers, with the challenges beta, gamma, alpha in that order
--- Proves        refused: transcript and scratch as they came; accepted: the transcript of the definitions, and zeros in the scratch
+-- provedFrom    the transcript that the prover lays for lent buffers, where there is a z; the challenges are beta, gamma, alpha in that order
+-- Proves        refused: transcript and scratch as they came; accepted: there is a transcript, and it is laid, with zeros in the scratch
 --
 -- Assumes nothing.
 use mathlib.Core.Path.{_≡_}
 use mathlib.Core.Bool.{cond}
 use mathlib.Core.List.{List}
+use mathlib.Core.Option.{Option, some}
 use Prim.Native.Nat.{ℕ}
 use lib.ListN.{getD, replicate}
 use Rattle.field.specs.declared.Answer.{Answer}
@@ -15,12 +16,12 @@ use Rattle.transform.specs.Transform.{scratchLength}
 use Rattle.circuit.specs.Circuit.{lentConstraints, lentPublic, lentWitness}
 use Rattle.protocol.specs.Protocol.{proved, proveReasons}
 
-abbrev pub provedFrom : (p n : ℕ) (selectors labels witness publics challenges : List ℕ) → List ℕ
+abbrev pub provedFrom : (p n : ℕ) (selectors labels witness publics challenges : List ℕ) → Option (List ℕ)
 provedFrom p n selectors labels witness publics challenges =
     proved p n (lentConstraints n selectors labels) (lentPublic publics) (lentWitness n witness) (getD challenges 0 0) (getD challenges 1 0) (getD challenges 2 0)
 
 -- selectors, labels, witness, public inputs and challenges are only read
 pub record Proves (p n l : ℕ) (selectors labels witness publics transcript challenges scratch : List ℕ) (r : Answer) (transcript' scratch' : List ℕ) : Type 0 where
   pub answer : r ≡ answerOf (proveReasons p n l selectors labels witness publics transcript challenges scratch)
-  pub lays : transcript' ≡ cond (isAccepted r) (provedFrom p n selectors labels witness publics challenges) transcript
+  pub lays : some transcript' ≡ cond (isAccepted r) (provedFrom p n selectors labels witness publics challenges) (some transcript)
   pub cleared : scratch' ≡ cond (isAccepted r) (replicate (scratchLength n) 0) scratch

@@ -3,6 +3,7 @@
 // The public call is `prove`. It decides first, reading only, and then lays the polynomials, each through a part of the transcript.
 ghost use mathlib.Core.Path.{_≡_};
 ghost use mathlib.Core.List.{List, _++_};
+ghost use mathlib.Core.Option.{some, Option·map};
 ghost use Prim.Native.Nat.{ℕ, _*_};
 ghost use lib.ListN.{length, getD, take, drop, replicate};
 ghost use Rattle.algebra.specs.Polynomial.{reduced};
@@ -90,7 +91,7 @@ fn lay_front(
     scratch: &mut [u32],
 )
     requires { ⌜ Front p n (now labels) (now witness) (now transcript) (now challenges) (now scratch) ⌝ }
-    ensures { λ _. ⌜ ((selectors : List ℕ) → now (transcript .exit) ≡ laidRows p n (lentConstraints n selectors (now (labels .entry))) (lentWitness n (now (witness .entry))) (getD (now (challenges .entry)) 0 0) (getD (now (challenges .entry)) 1 0) ++ drop (tStart n) (now (transcript .entry))) ⌝ }
+    ensures { λ _. ⌜ ((selectors : List ℕ) → Option·map (λ laid. laid ++ drop (tStart n) (now (transcript .entry))) (laidRows p n (lentConstraints n selectors (now (labels .entry))) (lentWitness n (now (witness .entry))) (getD (now (challenges .entry)) 0 0) (getD (now (challenges .entry)) 1 0)) ≡ some (now (transcript .exit))) ⌝ }
 {
     let m = n as usize;
     let end = circuit::t_start(m);
@@ -121,7 +122,7 @@ fn work(
     scratch: &mut [u32],
 )
     requires { ⌜ Checked p n (now selectors) (now labels) (now witness) (now publics) (now transcript) (now challenges) (now scratch) ⌝ }
-    ensures { λ _. ⌜ now (transcript .exit) ≡ provedFrom p n (now (selectors .entry)) (now (labels .entry)) (now (witness .entry)) (now (publics .entry)) (now (challenges .entry)) ⌝ }
+    ensures { λ _. ⌜ provedFrom p n (now (selectors .entry)) (now (labels .entry)) (now (witness .entry)) (now (publics .entry)) (now (challenges .entry)) ≡ some (now (transcript .exit)) ⌝ }
     ensures { λ _. ⌜ now (scratch .exit) ≡ replicate (scratchLength n) 0 ⌝ }
 {
     lay_front(p, n, labels, witness, transcript, challenges, scratch);

@@ -6,9 +6,10 @@
 -- Assumes nothing.
 use mathlib.Core.Path.{_≡_, refl}
 use mathlib.Core.List.{List, [], _∷_, _++_}
+use mathlib.Core.Option.{none, some}
 use Prim.Native.Nat.{ℕ, _+_, _*_, _%_, _^_}
 use lib.ListN.{getD}
-use Rattle.algebra.specs.Lists.{tab, All}
+use Rattle.algebra.specs.Lists.{tab, gathered, All}
 use Rattle.algebra.specs.Modular.{powF, first, inverse}
 use Rattle.algebra.specs.Polynomial.{coef, eval, addP, scaleP, mulP, linear, dilate, reduced, quotientVanishing, remainderVanishing}
 use Rattle.field.specs.Fields.{generator, root, point, multiplier, tag}
@@ -16,8 +17,8 @@ use Rattle.transform.specs.Transform.{evaluation, interpolation}
 use Rattle.transform.specs.Passes.{strided, oddWord, passed}
 use Rattle.circuit.specs.Circuit.{Constraints, lentConstraints, lentPublic, lentWitness, permutation, gate}
 use Rattle.circuit.specs.Worked.{publicSelectors, labels}
-use Rattle.protocol.specs.Protocol.{wiredTag, rowN, rowD, rowZ, polyN, polyD, polyL, gatePart, stepPart, startPart, polyF, quotient, preparedPoly, prepared, wiresOf, zOf, proved}
-use Rattle.protocol.specs.Worked.{circuit, publics, witness, Case, number, numbers, _&_}
+use Rattle.protocol.specs.Protocol.{wiredTag, rowN, rowD, rowZ, polyN, polyD, polyL, gatePart, stepPart, startPart, polyF, quotient, preparedPoly, prepared, wiresOf, proved}
+use Rattle.protocol.specs.Worked.{circuit, publics, witness, zWorked, Case, number, inverted, numbers, perhaps, _&_}
 use Rattle.opening.specs.Opening.{polynomialOf, less, named, evaluationsOf, mixtureOf}
 use Rattle.opening.specs.Worked as opened
 
@@ -28,7 +29,7 @@ abbrev wire : ℕ → List ℕ
 wire = wiresOf 17 2 witness
 
 abbrev z : List ℕ
-z = zOf 17 2 circuit witness 1 1
+z = zWorked
 
 abbrev x : List ℕ
 x = interpolation 17 2 publics
@@ -83,8 +84,9 @@ meterGate l c =
 abbrev pub table : List Case
 table =
     record { what = "w"; is = number (root 17 2); should = number 16 }
-    ∷ record { what = "1/2"; is = number (inverse 17 2); should = number 9 }
-    ∷ record { what = "1/15"; is = number (inverse 17 15); should = number 8 }
+    ∷ record { what = "1/2"; is = inverted (inverse 17 2); should = inverted (some 9) }
+    ∷ record { what = "1/0"; is = inverted (inverse 17 0); should = inverted none }
+    ∷ record { what = "1/15"; is = inverted (inverse 17 15); should = inverted (some 8) }
     ∷ record { what = "points of four rows"; is = numbers points; should = numbers (1 ∷ 13 ∷ 16 ∷ 4 ∷ []) }
     ∷ record { what = "coefficients: stride 4"; is = numbers (strided 17 13 4 1 coefficients); should = numbers (1 ∷ 2 ∷ 4 ∷ 8 ∷ []) }
     ∷ record { what = "after the first pass"; is = numbers once; should = numbers (5 ∷ 10 ∷ 14 ∷ 11 ∷ []) }
@@ -93,7 +95,7 @@ table =
     ∷ record { what = "stride 1"; is = numbers (strided 17 13 1 4 coefficients); should = numbers (15 ∷ 4 ∷ 12 ∷ 7 ∷ []) }
     ∷ record { what = "values at the four points"; is = numbers (evaluation 17 4 coefficients); should = numbers (15 ∷ 4 ∷ 12 ∷ 7 ∷ []) }
     ∷ record { what = "the product of word 1"; is = number (getD points 1 0 * oddWord 1 once 1 % 17); should = number 7 }
-    ∷ record { what = "1/4"; is = number (inverse 17 4); should = number 13 }
+    ∷ record { what = "1/4"; is = inverted (inverse 17 4); should = inverted (some 13) }
     ∷ record { what = "the way back"; is = numbers (interpolation 17 4 (coef coefficients)); should = numbers (8 ∷ 6 ∷ 3 ∷ 1 ∷ []) }
     ∷ record { what = "and its values"; is = numbers (evaluation 17 4 (8 ∷ 6 ∷ 3 ∷ 1 ∷ [])); should = numbers (1 ∷ 2 ∷ 4 ∷ 8 ∷ []) }
     ∷ record { what = "tags of where the permutation leads"; is = numbers (tab (wiredTag 17 2 circuit) 6); should = numbers (1 ∷ 14 ∷ 3 ∷ 9 ∷ 16 ∷ 8 ∷ []) }
@@ -124,7 +126,7 @@ table =
     ∷ record { what = "public row: qO × c"; is = numbers (reduced 17 3 (mulP (preparedPoly 17 2 bound 2) (wire 2))); should = numbers (4 ∷ 6 ∷ 7 ∷ []) }
     ∷ record { what = "public row: gate"; is = numbers (reduced 17 3 (gatePart 17 (preparedPoly 17 2 bound) wire (interpolation 17 2 two))); should = numbers (5 ∷ 0 ∷ 12 ∷ []) }
     ∷ record { what = "public row: F"; is = numbers (reduced 17 5 boundF); should = numbers (13 ∷ 15 ∷ 6 ∷ 2 ∷ 15 ∷ []) }
-    ∷ record { what = "public row: transcript"; is = numbers (proved 17 2 bound two witness 1 1 2); should = numbers (4 ∷ 15 ∷ 13 ∷ 7 ∷ 9 ∷ 14 ∷ 16 ∷ 2 ∷ 4 ∷ 2 ∷ 15 ∷ []) }
+    ∷ record { what = "public row: transcript"; is = perhaps (proved 17 2 bound two witness 1 1 2); should = perhaps (some (4 ∷ 15 ∷ 13 ∷ 7 ∷ 9 ∷ 14 ∷ 16 ∷ 2 ∷ 4 ∷ 2 ∷ 15 ∷ [])) }
     ∷ record { what = "public row: gate of row 0, public input 3"; is = number (gate 17 2 bound (lentPublic (3 ∷ [])) witness 0); should = number 16 }
     ∷ record { what = "a, b, c, z, each less its value at 2"; is = numbers (reduced 17 2 (shifted 0) ++ (reduced 17 2 (shifted 1) ++ (reduced 17 2 (shifted 2) ++ reduced 17 2 (shifted 3)))); should = numbers (4 ∷ 15 ∷ 3 ∷ 7 ∷ 6 ∷ 14 ∷ 13 ∷ 2 ∷ []) }
     ∷ record { what = "t less its value at 2"; is = numbers (reduced 17 3 (shifted 4)); should = numbers (1 ∷ 12 ∷ 15 ∷ []) }
@@ -138,5 +140,5 @@ table =
     ∷ []
 
 pub by-hand : All (λ r. r .is ≡ r .should) table
-unfolding tab powF first inverse reduced quotientVanishing remainderVanishing generator root point multiplier tag evaluation interpolation strided passed lentWitness permutation rowN rowD rowZ polyN polyD polyL gatePart stepPart startPart polyF quotient prepared gate polynomialOf evaluationsOf mixtureOf
-by-hand = refl & refl & refl & refl & refl & refl & refl & refl & refl & refl & refl & refl & refl & refl & refl & refl & refl & refl & refl & refl & refl & refl & refl & refl & refl & refl & refl & refl & refl & refl & refl & refl & refl & refl & refl & refl & refl & refl & refl & refl & refl & refl & refl & refl & refl & refl & refl & refl & refl & refl & refl & refl & refl & tt
+unfolding tab gathered powF first inverse reduced quotientVanishing remainderVanishing generator root point multiplier tag evaluation interpolation strided passed lentWitness permutation rowN rowD rowZ polyN polyD polyL gatePart stepPart startPart polyF quotient prepared gate polynomialOf evaluationsOf mixtureOf
+by-hand = refl & refl & refl & refl & refl & refl & refl & refl & refl & refl & refl & refl & refl & refl & refl & refl & refl & refl & refl & refl & refl & refl & refl & refl & refl & refl & refl & refl & refl & refl & refl & refl & refl & refl & refl & refl & refl & refl & refl & refl & refl & refl & refl & refl & refl & refl & refl & refl & refl & refl & refl & refl & refl & refl & tt

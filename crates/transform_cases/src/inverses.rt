@@ -1,5 +1,15 @@
-// `field::inverse`: p and x, then the answer's number and detail, then the value.
+// `field::inverse`: p and x, then the answer's number and detail, then none or the inverse.
+ghost use Prim.Native.Nat.{_<_};
 use case_tools::print;
+use field::InverseOf;
+
+// None, or the number.
+fn value(i: InverseOf) {
+    match i {
+        InverseOf::None => print::word(b"none"),
+        InverseOf::Is(y) => print::number(y),
+    }
+}
 
 // A line of output.
 fn inverse(label: &[u8], p: u32, x: u32) {
@@ -8,28 +18,27 @@ fn inverse(label: &[u8], p: u32, x: u32) {
     print::number(p);
     print::number(x);
     let a = r.answer;
+    let i = r.value;
     print::answer(a);
-    print::number(r.value);
+    value(i);
     print::end();
 }
 
-// Over 17: the least and the greatest element, and the first number above.
-fn smallest_prime() {
-    inverse(b"inverse of zero", 17, 0);
-    inverse(b"inverse of one", 17, 1);
-    inverse(b"inverse of the greatest", 17, 16);
-    inverse(b"inverse of p", 17, 17);
-    inverse(b"inverse above p", 17, 4294967295);
+// Over one prime: 0, which has no inverse, the least and the greatest number that have one, and the first number above.
+fn edges(p: u32)
+    requires { ⌜ 0 < p ⌝ }
+{
+    inverse(b"inverse of zero", p, 0);
+    inverse(b"inverse of one", p, 1);
+    inverse(b"inverse of the greatest", p, p - 1);
+    inverse(b"inverse of p", p, p);
 }
 
-// The same over the other two.
-fn larger_primes() {
+// Others.
+fn others() {
+    inverse(b"inverse above p", 17, 4294967295);
     inverse(b"inverse of five", 97, 5);
-    inverse(b"inverse of p", 97, 97);
-    inverse(b"inverse of zero", 2013265921, 0);
     inverse(b"inverse of the generator", 2013265921, 31);
-    inverse(b"inverse of the greatest", 2013265921, 2013265920);
-    inverse(b"inverse of p", 2013265921, 2013265921);
 }
 
 // A number that is none of the three primes is refused before x is looked at.
@@ -42,7 +51,9 @@ fn no_prime() {
 }
 
 pub fn run() {
-    smallest_prime();
-    larger_primes();
+    edges(17);
+    edges(97);
+    edges(2013265921);
+    others();
     no_prime();
 }

@@ -12,11 +12,12 @@
 use mathlib.Core.Path.{_≡_, refl, sym, _∙_}
 use mathlib.Core.Bool.{Bool, true, false, cond}
 use mathlib.Core.List.{List, [], _∷_}
+use mathlib.Core.Option.{some}
 use Prim.Native.Nat.{ℕ, suc, _*_, _-_, _%_, _<_}
 use native.Mathlib.Nat.{mod-lt}
 use native.Mathlib.Omega.{arith}
 use lib.ListN.{length}
-use Rattle.algebra.specs.Lists.{AtMost, tab}
+use Rattle.algebra.specs.Lists.{AtMost}
 use Rattle.algebra.specs.Polynomial.{Elements}
 use Rattle.algebra.specs.PolynomialLaws.{tab-elements}
 use Rattle.algebra.specs.Tables.{getD-tab, all-getD}
@@ -31,8 +32,8 @@ use Rattle.circuit.specs.Witness.{lent-laid, laid-elements, lent-below}
 use Rattle.circuit.specs.Buffers.{witnessLength, quotientLength}
 use Rattle.circuit.specs.Reasons.{rowsReasons}
 use Rattle.circuit.specs.RightlyLent.{RightCircuit, rows-taken, point-taken}
-use Rattle.protocol.specs.Protocol.{RowVerdict, pass, fails, rowVerdict, rowN, rowD, rowZ, prepared, transcript, proved, zeroFactor}
-use Rattle.protocol.specs.Rows.{RowHolds, passed-row, rows-pass, rowZ-lt}
+use Rattle.protocol.specs.Protocol.{RowVerdict, pass, fails, rowVerdict, rowN, rowD, zRows, prepared, transcript, proved, zeroFactor}
+use Rattle.protocol.specs.Rows.{RowHolds, passed-row, rows-pass}
 use Rattle.protocol.specs.Demand3.{witnessOf, PassingPair, HoldingAlpha, AcceptedZeta, Demand3, demand-3}
 use Rattle.rowcheck.specs.declared.RowAnswer.{RowAnswer}
 use Rattle.rowcheck.specs.declared.Verdict.the-variants.{None, Pass}
@@ -86,22 +87,21 @@ pub record AnswersCounted (p n l : ℕ) (selectors labels publics : List ℕ) : 
       → (HoldingAlpha p n (lentConstraints n selectors labels) (lentPublic publics) wire z pair alpha → ⊥)
       → (t : List ℕ) → Elements p (quotientLength n) t
       → AtMost (4 * n - 4) (PointAccepts p n l selectors labels publics wire z t pair alpha)
-  -- a witness that satisfies the circuit, no zero factor of any D(i), and z on the rows: the row check answers Pass
+  -- a witness that satisfies the circuit, and no zero factor of any D(i): there is a z on the rows, and the row check, lent it, answers Pass
   pub honest-rows : (witness : List ℕ) → Elements p (witnessLength n) witness
       → Satisfies p n (lentConstraints n selectors labels) (lentPublic publics) (lentWitness n witness)
       → (beta gamma : ℕ) → beta < p → gamma < p → zeroFactor p n (lentConstraints n selectors labels) (lentWitness n witness) beta gamma ≡ n
-      → (r : RowAnswer)
-      → ChecksRows p n l selectors labels witness publics (tab (rowZ p n (lentConstraints n selectors labels) (lentWitness n witness) beta gamma) n) (beta ∷ gamma ∷ []) r
-      → r .verdict ≡ Pass
-  -- the same witness, and the transcript that the prover lays: the point check answers Accept, for every alpha and zeta
+      → (z : List ℕ) × (zRows p n (lentConstraints n selectors labels) (lentWitness n witness) beta gamma ≡ some z)
+      × ((r : RowAnswer) → ChecksRows p n l selectors labels witness publics z (beta ∷ gamma ∷ []) r → r .verdict ≡ Pass)
+  -- the same witness: there is a transcript that the prover lays, and the point check, lent it, answers Accept, for every alpha and zeta
   pub honest-point : (witness : List ℕ)
       → Satisfies p n (lentConstraints n selectors labels) (lentPublic publics) (lentWitness n witness)
       → (beta gamma : ℕ) → beta < p → gamma < p → zeroFactor p n (lentConstraints n selectors labels) (lentWitness n witness) beta gamma ≡ n
-      → (alpha zeta : ℕ) → alpha < p → zeta < p → (scratch scratch' : List ℕ) → length scratch ≡ scratchLength n → (r : PointAnswer)
-      → PointChecks p n l publics (prepared p n (lentConstraints n selectors labels))
-      (proved p n (lentConstraints n selectors labels) (lentPublic publics) (lentWitness n witness) beta gamma alpha)
-      (beta ∷ gamma ∷ alpha ∷ zeta ∷ []) scratch r scratch'
-      → r .verdict ≡ judged.Accept
+      → (alpha : ℕ) → alpha < p
+      → (T : List ℕ) × (proved p n (lentConstraints n selectors labels) (lentPublic publics) (lentWitness n witness) beta gamma alpha ≡ some T)
+      × ((zeta : ℕ) → zeta < p → (scratch scratch' : List ℕ) → length scratch ≡ scratchLength n → (r : PointAnswer)
+      → PointChecks p n l publics (prepared p n (lentConstraints n selectors labels)) T (beta ∷ gamma ∷ alpha ∷ zeta ∷ []) scratch r scratch'
+      → r .verdict ≡ judged.Accept)
 
 -- THE SAME ROWS, THE SAME VERDICT
 
@@ -227,41 +227,41 @@ module _ (p n : ℕ) (A : Admissible p n) (l : ℕ) (selectors labels publics : 
   honest-rows : (witness : List ℕ) → Elements p (witnessLength n) witness
       → Satisfies p n (lentConstraints n selectors labels) (lentPublic publics) (lentWitness n witness)
       → (beta gamma : ℕ) → beta < p → gamma < p → zeroFactor p n (lentConstraints n selectors labels) (lentWitness n witness) beta gamma ≡ n
-      → (r : RowAnswer)
-      → ChecksRows p n l selectors labels witness publics (tab (rowZ p n (lentConstraints n selectors labels) (lentWitness n witness) beta gamma) n) (beta ∷ gamma ∷ []) r
-      → r .verdict ≡ Pass
-  honest-rows witness elements sat beta gamma hb hg nonzero r checks =
-      let Z : ℕ → ℕ = rowZ p n (lentConstraints n selectors labels) (lentWitness n witness) beta gamma in
-      let drawn : Elements p 2 (beta ∷ gamma ∷ []) = record { long = refl; below = (hb, (hg, tt)) } in
-      let verdict =
-      same-pass p n (lentConstraints n selectors labels) (lentPublic publics) (lentWitness n witness) (lentWitness n witness) Z (lentZ (tab Z n)) beta gamma
-      (λ k u. refl)
-      (λ i u. sym (getD-tab Z n i u))
-      (demand .completeness _ _ sat beta gamma nonzero .z-passes) in
-      checks .verdict
-      ∙ answer-pass _ _
-      (checks .answer
-      ∙ rows-taken A right rightX elements (tab-elements Z n (λ i u. rowZ-lt p n two _ _ beta gamma i)) drawn)
-      verdict
+      → (z : List ℕ) × (zRows p n (lentConstraints n selectors labels) (lentWitness n witness) beta gamma ≡ some z)
+      × ((r : RowAnswer) → ChecksRows p n l selectors labels witness publics z (beta ∷ gamma ∷ []) r → r .verdict ≡ Pass)
+  honest-rows witness elements sat beta gamma hb hg nonzero =
+      let K = demand .completeness (lentPublic publics) (lentWitness n witness) sat beta gamma nonzero in
+      let drawn : Elements p 2 (beta ∷ gamma ∷ []) = record { long = refl; below = (hb, (hg, tt)) } in (
+        K .rows,
+        K .grand .is,
+        λ r checks.
+            checks .verdict
+            ∙ answer-pass _ _ (checks .answer ∙ rows-taken A right rightX elements (K .grand .elements) drawn) (K .z-passes),
+      )
 
   honest-point : (witness : List ℕ)
       → Satisfies p n (lentConstraints n selectors labels) (lentPublic publics) (lentWitness n witness)
       → (beta gamma : ℕ) → beta < p → gamma < p → zeroFactor p n (lentConstraints n selectors labels) (lentWitness n witness) beta gamma ≡ n
-      → (alpha zeta : ℕ) → alpha < p → zeta < p → (scratch scratch' : List ℕ) → length scratch ≡ scratchLength n → (r : PointAnswer)
-      → PointChecks p n l publics (prepared p n (lentConstraints n selectors labels))
-      (proved p n (lentConstraints n selectors labels) (lentPublic publics) (lentWitness n witness) beta gamma alpha)
-      (beta ∷ gamma ∷ alpha ∷ zeta ∷ []) scratch r scratch'
-      → r .verdict ≡ judged.Accept
-  honest-point witness sat beta gamma hb hg nonzero alpha zeta ha hz scratch scratch' long r checks =
-      let drawn : Elements p 4 (beta ∷ gamma ∷ alpha ∷ zeta ∷ []) = record { long = refl; below = (hb, (hg, (ha, (hz, tt)))) } in
-      checks .verdict
-      ∙ answer-accept _ _
-      (checks .answer
-      ∙ point-taken A scratch (right .circuit .publics-few) rightX (demand .prepared-long)
-      (demand .proved-long (lentPublic publics) (lentWitness n witness) beta gamma alpha)
-      drawn
-      long)
-      (demand .completeness _ _ sat beta gamma nonzero .accepted alpha zeta)
+      → (alpha : ℕ) → alpha < p
+      → (T : List ℕ) × (proved p n (lentConstraints n selectors labels) (lentPublic publics) (lentWitness n witness) beta gamma alpha ≡ some T)
+      × ((zeta : ℕ) → zeta < p → (scratch scratch' : List ℕ) → length scratch ≡ scratchLength n → (r : PointAnswer)
+      → PointChecks p n l publics (prepared p n (lentConstraints n selectors labels)) T (beta ∷ gamma ∷ alpha ∷ zeta ∷ []) scratch r scratch'
+      → r .verdict ≡ judged.Accept)
+  honest-point witness sat beta gamma hb hg nonzero alpha ha =
+      let K = demand .completeness (lentPublic publics) (lentWitness n witness) sat beta gamma nonzero in (
+        _,
+        K .laid alpha,
+        λ zeta hz scratch scratch' long r checks.
+            let drawn : Elements p 4 (beta ∷ gamma ∷ alpha ∷ zeta ∷ []) = record { long = refl; below = (hb, (hg, (ha, (hz, tt)))) } in
+            checks .verdict
+            ∙ answer-accept _ _
+            (checks .answer
+            ∙ point-taken A scratch (right .circuit .publics-few) rightX (demand .prepared-long)
+            (demand .proved-long (lentPublic publics) (lentWitness n witness) beta gamma alpha _ (K .laid alpha))
+            drawn
+            long)
+            (K .accepted alpha zeta),
+      )
 
   pub answers-counted : AnswersCounted p n l selectors labels publics
   answers-counted =

@@ -1,6 +1,8 @@
 -- `laying::lay_rows` meets its contract: the wires in front, z behind them. Assumes nothing.
-use mathlib.Core.Path.{sym, _∙_}
-use Prim.Native.Nat.{_≤_}
+use mathlib.Core.Path.{refl, sym, ap, _∙_}
+use mathlib.Core.List.{List}
+use mathlib.Core.Option.{Option, some}
+use Prim.Native.Nat.{ℕ, _≤_}
 use native.Mathlib.Omega.{arith}
 use lib.ListN.{length}
 use lib.Seq.{length-take-le}
@@ -27,7 +29,7 @@ slice-aggregate-lay-wires c = sym (length-take-le _ _ (fits (c .before)))
 lay-wires-requires : tie.Need-lay-wires-requires
 lay-wires-requires c κs =
     let s = c .before .before .before .before .before .before .before .before in
-    (s .pre .0, (length-take-le _ _ (fits (c .before .before)) ∙ c .before .before .z-start .ensures, s .pre .1 .1))
+    (s .pre .0 .0, (length-take-le _ _ (fits (c .before .before)) ∙ c .before .before .z-start .ensures, s .pre .1 .1))
 
 mul-lay-z : tie.Need-mul-lay-z
 mul-lay-z c = search needs
@@ -65,8 +67,9 @@ returns c selectors =
     let a = d .before .before .before .before .before .before .args in
     let w = c .before .before .before .before .before .before .before .before .before .before .before .lay-wires in
     let z = c .before .before .before .before .lay-z in
-    both-parts (d .z-start .result) (a .out .now) (w .last .1 .1 .1 .1 .1 .0) (fits d) (w .kept .1 .1 .1 .1 .1 .0) (z .last .1 .1 .1 .1 .1 .1 .1 .0) _ _ (w .ensures) (z .ensures selectors)
-    ∙ wires-laid (a .p) (a .n) (lentWitness (a .n) (a .witness .now)) (lentConstraints (a .n) selectors (a .labels .now)) (a .beta) (a .gamma)
+    wires-laid (a .p) (a .n) (lentWitness (a .n) (a .witness .now)) (lentConstraints (a .n) selectors (a .labels .now)) (a .beta) (a .gamma) _ (z .ensures selectors)
+    ∙ ap {B = Option (List ℕ)} some
+    (sym (both-parts (d .z-start .result) (a .out .now) (w .last .1 .1 .1 .1 .1 .0) (fits d) (w .kept .1 .1 .1 .1 .1 .0) (z .last .1 .1 .1 .1 .1 .1 .1 .0) _ _ (w .ensures) refl))
 
 pub lay-rows-spec : {M : Type 1} → statement M
 lay-rows-spec =

@@ -1,28 +1,31 @@
 -- `laying::lay_z` meets its contract: z on the rows, interpolated in place. Assumes nothing.
-use mathlib.Core.Path.{_∙_}
-use mathlib.Core.List.{[]}
+use mathlib.Core.Path.{sym, ap, _∙_}
+use mathlib.Core.List.{List, []}
+use mathlib.Core.Option.{Option, some}
+use Prim.Native.Nat.{ℕ}
 use borrow.Author.Needs.{needs}
-use Rattle.field.specs.Primes.{field-prime}
+use Rattle.field.specs.Domain.{domain}
 use Rattle.circuit.specs.Circuit.{lentConstraints, lentWitness}
-use Rattle.laying.proofs.ZLaws.{z-elements, z-polynomial}
+use Rattle.protocol.specs.GrandProduct.{z-laid}
+use Rattle.laying.proofs.ZLaws.{z-elements}
 use Rattle.laying.proofs.lay_z.Statement.{statement}
 use Rattle.laying.proofs.lay_z.Tie as tie
 
 z-rows-requires : tie.Need-z-rows-requires
 z-rows-requires c κs =
     let s = c .before .before .before .before .before .before in
-    ((s .pre .0 .points .admissible, s .pre .0 .labelled), (s .pre .0 .elements .long, s .pre .1 .0))
+    ((s .pre .0 .0 .points .admissible, s .pre .0 .0 .labelled, s .pre .0 .1), (s .pre .0 .0 .elements .long, s .pre .1 .0))
 
 interpolate-in-place-requires : tie.Need-interpolate-in-place-requires
 interpolate-in-place-requires c κs =
     let s = c .before .before .before .before .before .before .before .before .before .before .before in
     let a = s .args in
     record {
-      domain-lent = s .pre .0 .points;
+      domain-lent = s .pre .0 .0 .points;
       elements =
-          z-elements (a .p) (a .n) (lentConstraints (a .n) [] (a .labels .now)) (lentWitness (a .n) (a .witness .now)) (a .beta) (a .gamma) _
-          (c .before .before .before .before .z-rows .ensures [])
-          (field-prime _ (s .pre .0 .points .admissible .one-of-three) .two);
+          z-elements (domain _ _ (s .pre .0 .0 .points .admissible)) (lentConstraints (a .n) [] (a .labels .now)) (lentWitness (a .n) (a .witness .now)) (a .beta) (a .gamma) (s .pre .0 .1 [])
+          _
+          (c .before .before .before .before .z-rows .ensures []);
       spare = s .pre .1 .1;
     }
 
@@ -35,9 +38,9 @@ same-length-2 c = search needs
 returns : tie.Need-returns
 returns c selectors =
     let a = c .before .before .before .before .before .before .before .before .before .before .before .before .before .before .before .before .args in
-    c .before .before .before .before .interpolate-in-place .ensures
-    ∙ z-polynomial (a .p) (a .n) (lentConstraints (a .n) selectors (a .labels .now)) (lentWitness (a .n) (a .witness .now)) (a .beta) (a .gamma) _
+    z-laid (a .p) (a .n) (lentConstraints (a .n) selectors (a .labels .now)) (lentWitness (a .n) (a .witness .now)) (a .beta) (a .gamma) _
     (c .before .before .before .before .before .before .before .before .before .z-rows .ensures selectors)
+    ∙ ap {B = Option (List ℕ)} some (sym (c .before .before .before .before .interpolate-in-place .ensures))
 
 pub lay-z-spec : {M : Type 1} → statement M
 lay-z-spec = tie.close (tie.spec z-rows-requires interpolate-in-place-requires same-length same-length-2 returns)

@@ -1,13 +1,11 @@
 -- `prover::lay_front` meets its contract: a, b, c and z in front, the rest as it was. Assumes nothing.
-use mathlib.Core.Path.{sym, ap, _∙_}
-use mathlib.Core.List.{List, _++_}
-use Prim.Native.Nat.{ℕ, _≤_}
+use mathlib.Core.Path.{sym, _∙_}
+use Prim.Native.Nat.{_≤_}
 use native.Mathlib.Omega.{arith}
-use lib.ListN.{length, drop}
+use lib.ListN.{length}
 use lib.Seq.{length-take-le}
 use borrow.Author.Needs.{needs}
 use Rattle.field.specs.Primes.{rows-power}
-use Rattle.circuit.specs.Buffers.{tStart}
 use Rattle.prover.proofs.Fits.{transcript-fits, spare-fits}
 use Rattle.prover.proofs.lay_front.Statement.{statement}
 use Rattle.prover.proofs.lay_front.Tie as tie
@@ -55,11 +53,14 @@ slice-aggregate-lay-rows-3 c = sym (length-take-le _ _ (spare-fits (start (c .be
 lay-rows-requires : tie.Need-lay-rows-requires
 lay-rows-requires c κs =
     let s = start (c .before .before .before .before .before .before) in (
-      record {
-        points = record { admissible = s .pre .admissible; points = c .before .before .before .before .before .domain-points .ensures .1 };
-        labelled = s .pre .labelled;
-        elements = s .pre .elements;
-      },
+      (
+        record {
+          points = record { admissible = s .pre .admissible; points = c .before .before .before .before .before .domain-points .ensures .1 };
+          labelled = s .pre .labelled;
+          elements = s .pre .elements;
+        },
+        s .pre .no-zero,
+      ),
       (length-take-le _ _ (front-fit (c .before .before .before .before .before .before)) ∙ c .before .before .before .before .before .before .t-start .ensures, length-take-le _ _ (spare-fits (s .pre))),
     )
 
@@ -73,7 +74,7 @@ returns : tie.Need-returns
 returns c selectors =
     let a = start (c .before .before .before .before .before .before .before .before .before .before .before) .args in
     let d = c .before .before .before .before .before .before .before .before .before .before .before .t-start in
-    rw (d .ensures) (ap (λ (l : List ℕ). l ++ drop (tStart (a .n)) (a .transcript .now)) (c .before .before .before .before .lay-rows .ensures selectors))
+    rw (d .ensures, c .before .before .before .before .lay-rows .ensures selectors)
 
 pub lay-front-spec : {M : Type 1} → statement M
 lay-front-spec =

@@ -28,7 +28,7 @@ returns c =
     let w = c .before .before .before .before .work .ensures in
     record {
       answer = c .before .before .before .before .before .before .before .before .decide .ensures;
-      lays = rw (eq-eqb _ _ (c .before .before .before .before .before .before .before .if1 .taken)) (w .0);
+      lays = rw (eq-eqb _ _ (c .before .before .before .before .before .before .before .if1 .taken)) (sym (w .0));
       cleared = rw (eq-eqb _ _ (c .before .before .before .before .before .before .before .if1 .taken)) (w .1);
     }
 

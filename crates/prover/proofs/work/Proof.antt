@@ -3,6 +3,7 @@ use mathlib.Core.Path.{ap, _∙_}
 use Prim.Native.Nat.{ℕ}
 use lib.ListN.{replicate}
 use borrow.Author.Needs.{needs}
+use Rattle.field.specs.Domain.{domain}
 use Rattle.prover.proofs.Fits.{transcript-of}
 use Rattle.prover.proofs.work.Statement.{statement}
 use Rattle.prover.proofs.work.Tie as tie
@@ -40,7 +41,7 @@ returns c =
     let a = s .args in
     let f = c .before .before .before .before .before .before .before .before .before .before .before .before .before .before .before .lay-front in
     let t = c .before .before .before .before .before .before .before .before .lay-t in (
-      transcript-of (a .p) (a .n) (a .selectors .now) (a .labels .now) (a .witness .now) (a .publics .now) (a .challenges .now) (f .last .1 .1 .1 .1 .0) _ (t .last .1 .1 .1 .1 .1 .0)
+      transcript-of (domain _ _ (s .pre .ready .admissible)) (a .selectors .now) (a .labels .now) (a .witness .now) (a .publics .now) (a .challenges .now) (f .last .1 .1 .1 .1 .0) _ (t .last .1 .1 .1 .1 .1 .0)
           (f .ensures (a .selectors .now))
           (t .ensures),
       c .before .before .clear .ensures ∙ ap (λ (m : ℕ). replicate m 0) (t .kept .1 .1 .1 .1 .1 .1 .1 .0 ∙ (f .kept .1 .1 .1 .1 .1 .1 .0 ∙ s .pre .ready .scratch-long)),

@@ -20,7 +20,7 @@ put-judged-requires : tie.Need-put-judged-requires
 put-judged-requires c κs =
     let s = c .before .before .before .before .before .before .before .before .before .before .before .before in
     let t = c .before .before .before .put-transcript in
-    omega (arith, t .ensures .place, t .kept, transcript-fits (s .args .n) (laid-lines (s .args .text .now) (s .pre .0) (s .pre .1)))
+    omega (arith, t .ensures .place, t .kept, transcript-fits (s .args .n) (s .pre .0 .few) (s .args .transcript .now) (s .pre .0 .transcript-right .long), s .pre .1)
 
 same-length : tie.Need-same-length
 same-length c = search needs

@@ -1,6 +1,7 @@
 -- `archive::work::print_work` meets its contract: what the prover laid is printed and judged, or its refusal is printed. Assumes nothing.
 use mathlib.Core.Path.{_≡_, sym, ap, subst, _∙_}
 use mathlib.Core.List.{List, _++_}
+use mathlib.Core.Option.{Option, some}
 use Prim.Native.Nat.{ℕ, _≤_}
 use native.Mathlib.Omega.{arith}
 use lib.ListN.{length, take, drop}
@@ -10,7 +11,7 @@ use Rattle.algebra.specs.Ends.{front-fits, front-is}
 use Rattle.prover.specs.Promises.{provedFrom}
 use Rattle.archive.specs.Printed.{workAnswer}
 use Rattle.archive.specs.Puts.{Puts}
-use Rattle.archive.specs.Work.{Checkable, checkedText, laid-of, checkable-of, proved-text, refused-text}
+use Rattle.archive.specs.Work.{laid-of, checkable-of, proved-text, refused-text}
 use Rattle.archive.proofs.work.print_work.Statement.{statement}
 use Rattle.archive.proofs.work.print_work.Tie as tie
 
@@ -32,16 +33,17 @@ after c = c .lay .last .1 .1 .1 .1 .1 .1 .1 .0 ++ drop (c .before .before .befor
 still-fits : (c : tie.After-lay) → c .before .before .before .transcript-length .result ≤ length (after c)
 still-fits c = front-fits (c .before .before .before .transcript-length .result) (c .before .before .blank-2048 .result) (c .lay .last .1 .1 .1 .1 .1 .1 .1 .0) (fits (c .before .before)) (c .lay .kept .1 .1 .1 .1 .1 .1 .1 .0)
 
-abbrev laid : tie.After-lay → List ℕ
-laid c =
-    let a = call c .args in
-    provedFrom (a .p) (a .n) (a .selectors .now) (a .labels .now) (a .witness .now) (a .publics .now) (take 3 (a .challenges .now))
+-- the part that is lent on is what the prover laid
+abbrev lent : tie.After-lay → List ℕ
+lent c = take (c .before .before .before .transcript-length .result) (after c)
 
-part-laid : (c : tie.After-lay) → c .lay .result .number ≡ 0 → take (c .before .before .before .transcript-length .result) (after c) ≡ laid c
-part-laid c e =
+is-laid : (c : tie.After-lay) → c .lay .result .number ≡ 0
+    → provedFrom (call c .args .p) (call c .args .n) (call c .args .selectors .now) (call c .args .labels .now) (call c .args .witness .now) (call c .args .publics .now) (take 3 (call c .args .challenges .now)) ≡ some (lent c)
+is-laid c e =
     let a = call c .args in
-    front-is (c .before .before .before .transcript-length .result) (c .before .before .blank-2048 .result) (c .lay .last .1 .1 .1 .1 .1 .1 .1 .0) (fits (c .before .before)) (c .lay .kept .1 .1 .1 .1 .1 .1 .1 .0)
-    ∙ laid-of (a .p) (a .n) (a .l) (a .selectors .now) (a .labels .now) (a .witness .now) (a .publics .now) (a .challenges .now) _ _ _ (c .lay .ensures) e
+    laid-of (a .p) (a .n) (a .l) (a .selectors .now) (a .labels .now) (a .witness .now) (a .publics .now) (a .challenges .now) _ _ _ (c .lay .ensures) e
+    ∙ ap {B = Option (List ℕ)} some
+    (sym (front-is (c .before .before .before .transcript-length .result) (c .before .before .blank-2048 .result) (c .lay .last .1 .1 .1 .1 .1 .1 .1 .0) (fits (c .before .before)) (c .lay .kept .1 .1 .1 .1 .1 .1 .1 .0)))
 
 taken : (c : tie.After-lay) → c .lay .result .number ≡ 0
     → workAnswer (call c .args .p) (call c .args .n) (call c .args .l) (call c .args .selectors .now) (call c .args .labels .now) (call c .args .witness .now) (call c .args .publics .now) (call c .args .challenges .now) .number ≡ 0
@@ -72,12 +74,11 @@ slice-aggregate-print-checked c = sym (length-take-le _ _ (still-fits (c .before
 
 print-checked-requires : tie.Need-print-checked-requires
 print-checked-requires c κs =
-    let s = call (c .before .before .before .before) in
-    let a = s .args in (
-      subst (λ (t : List ℕ). Checkable (a .p) (a .n) (a .l) (a .selectors .now) (a .labels .now) (a .publics .now) t (a .challenges .now)) (sym (part-laid (c .before .before .before .before) (c .before .before .if1 .taken)))
-          (checkable-of (a .p) (a .n) (a .l) (a .selectors .now) (a .labels .now) (a .witness .now) (a .publics .now) (a .challenges .now) (a .text .now) (s .pre) (taken (c .before .before .before .before) (c .before .before .if1 .taken))),
-      s .pre .room,
-    )
+    let d = c .before .before .before .before in
+    let s = call d in
+    let a = s .args in
+    let e = c .before .before .if1 .taken in
+    (checkable-of (a .p) (a .n) (a .l) (a .selectors .now) (a .labels .now) (a .witness .now) (a .publics .now) (a .challenges .now) (taken d e) (lent d) (is-laid d e) (a .text .now) (s .pre), s .pre .room)
 
 same-length : tie.Need-same-length
 same-length c = search needs
@@ -89,8 +90,7 @@ returns c =
     let e = c .before .before .before .before .before .if1 .taken in
     let t = c .before .before .print-checked in
     subst (λ (b : List ℕ). Puts 0 b (a .text .now) (t .result) (t .last .1 .1 .1 .1 .1 .1 .1 .1 .0))
-    (ap (λ (u : List ℕ). checkedText (a .p) (a .n) (a .selectors .now) (a .labels .now) (a .publics .now) u (a .challenges .now)) (part-laid d e)
-    ∙ proved-text (a .p) (a .n) (a .l) (a .selectors .now) (a .labels .now) (a .witness .now) (a .publics .now) (a .challenges .now) (taken d e))
+    (proved-text (a .p) (a .n) (a .l) (a .selectors .now) (a .labels .now) (a .witness .now) (a .publics .now) (a .challenges .now) (taken d e) (lent d) (is-laid d e))
     (t .ensures)
 
 put-refused-requires : tie.Need-put-refused-requires
