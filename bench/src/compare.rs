@@ -43,7 +43,7 @@ fn report(case: &Case, words: &[u32], place: (usize, usize), ours: &[Vec<u32>], 
     }
 }
 
-// How often each answer came: number, and the word of the verdict of an accepted check.
+// How often each answer came: number, and the word of the verdict of an accepted check, or of whether there is an inverse.
 type Counts = BTreeMap<(u32, u32), usize>;
 
 // One case on both sides. 1 if they differ.
@@ -64,7 +64,7 @@ fn try_case(r: &mut Random, case: &Case, counts: &mut Counts) -> usize {
     let mut lent: Vec<&mut [u32]> = rest.iter_mut().map(inner).collect();
     proved(case, &mut lent, inner(last));
 
-    let verdict = if case.kind.checks() { words[2] } else { 0 };
+    let verdict = if case.kind.checks() || case.kind == Kind::Inverse { words[2] } else { 0 };
     *counts.entry((words[0], verdict)).or_insert(0) += 1;
     match first_difference(&ours, &theirs) {
         None => 0,
@@ -129,9 +129,10 @@ fn all_small(r: &mut Random, kind: Kind) -> Vec<Case> {
     }
 }
 
-// The name of a check's verdict; none where there is no verdict.
+// The name of a check's verdict, or of an inverse; none where there is none.
 fn verdict_name(kind: Kind, verdict: u32) -> Option<&'static str> {
     let names: &[&str] = match kind {
+        Kind::Inverse => &["an inverse"],
         Kind::CheckRows => &["pass", "gate", "start", "step"],
         Kind::CheckPoint | Kind::CheckOpening => &["accept", "reject"],
         _ => &[],

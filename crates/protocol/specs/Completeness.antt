@@ -54,18 +54,21 @@ module _ (q n : ℕ) (D : Domain (suc q) n) (C : Constraints) (x v : ℕ → ℕ
   Ds = rowD (suc q) n C v beta gamma
 
   abbrev Z : ℕ → ℕ
-  Z = numberZ (suc q) n C v beta gamma
+  Z = numberZ (suc q) Ns Ds
 
   abbrev σ : ℕ → ℕ
   σ = permutation (3 * n) (C .label)
 
   -- Z ON THE ROWS
 
+  D-not-0 : (i : ℕ) → i < n → Cong (suc q) (Ds i) 0 → ⊥
+  D-not-0 = D-nonzero p n (D .prime) C v beta gamma nonzero
+
   first : Z 0 ≡ 1
-  first = Z-first p n (D .prime) C v beta gamma nonzero
+  first = Z-first p n (D .prime) Ns Ds D-not-0
 
   Z-stepped : (i : ℕ) → i < n → Cong (suc q) (Z (suc i) * Ds i) (Z i * Ns i)
-  Z-stepped = Z-step p n (D .prime) C v beta gamma nonzero
+  Z-stepped = Z-step p n (D .prime) Ns Ds D-not-0
 
   -- the permutation keeps the wire values, so the two products are the same
   same-products : Cong (suc q) (prodN n Ns) (prodN n Ds)
@@ -81,8 +84,8 @@ module _ (q n : ℕ) (D : Domain (suc q) n) (C : Constraints) (x v : ℕ → ℕ
   -- so z comes back to 1
   Z-round : Z n ≡ 1
   Z-round =
-      cong-lt (Z-lt p n (D .prime) C v beta gamma nonzero n (omega arith)) (D .prime .two)
-      (cong-divide (prodN n Ds) (D .prime) (prodN-nonzero n Ds (D .prime) (D-nonzero p n (D .prime) C v beta gamma nonzero))
+      cong-lt (Z-lt p n (D .prime) Ns Ds D-not-0 n (omega arith)) (D .prime .two)
+      (cong-divide (prodN n Ds) (D .prime) (prodN-nonzero n Ds (D .prime) D-not-0)
       (cong {b = Z n * prodN n Ds} (omega arith) ⨾ telescope n Z Ns Ds (cong first) Z-stepped ⨾ same-products ⨾ cong (omega arith)))
 
   Z-next : (i : ℕ) → i < n → Z (suc i % n) ≡ Z (suc i)
@@ -94,7 +97,7 @@ module _ (q n : ℕ) (D : Domain (suc q) n) (C : Constraints) (x v : ℕ → ℕ
 
   -- z on the rows, as the list of its numbers
   abbrev pub rows : List ℕ
-  rows = tab (numberZ (suc q) n C v beta gamma) n
+  rows = tab (numberZ (suc q) (rowN (suc q) n v beta gamma) (rowD (suc q) n C v beta gamma)) n
 
   at : (i : ℕ) → i < n → coef rows i ≡ Z i
   at i l = getD-tab Z n i l

@@ -9,6 +9,7 @@
 -- largestPosition, largestZero         sheets of the largest prime that are refused by 10 and 11
 -- table                                the cases of 17 and 97, which antt computes as they stand
 -- root-2, root-4, inverse-is, ..       the roots and inverses of the largest prime, which it cannot compute by their definitions
+-- rows-1, .., rows-largest, z-largest  z on its rows, one after the other, and z: each division has its inverse from there
 -- largestTable                         the cases of the largest prime
 -- further                              every case is right
 --
@@ -32,7 +33,7 @@ use Rattle.field.specs.Primes.{prime-2013265921}
 use Rattle.transform.specs.Transform.{interpolation}
 use Rattle.circuit.specs.Circuit.{Constraints, lentConstraints, lentWitness, lentPublic, permutation, gate}
 use Rattle.circuit.specs.Reasons.{unboundRow}
-use Rattle.protocol.specs.Protocol.{nextZ, rowN, rowD, rowZ, zRows, polyN, polyD, polyL, gatePart, stepPart, startPart, polyF, quotient, prepared, wiresOf, zOf, proved, RowVerdict, pass, fails, gateIdentity, startIdentity, stepIdentity, rowsFrom, rowAt, rowVerdict, PointVerdict, accept, reject, pointF, pointVerdict, brokenGate, brokenCopy, zeroFactor}
+use Rattle.protocol.specs.Protocol.{nextZ, runningZ, rowN, rowD, rowZ, zRows, polyN, polyD, polyL, gatePart, stepPart, startPart, polyF, quotient, prepared, wiresOf, zOf, proved, RowVerdict, pass, fails, gateIdentity, startIdentity, stepIdentity, rowsFrom, rowAt, rowVerdict, PointVerdict, accept, reject, pointF, pointVerdict, brokenGate, brokenCopy, zeroFactor}
 use Rattle.protocol.specs.GrandProduct.{z-laid}
 use Rattle.protocol.specs.Worked.{numbers, perhaps, rows, atPoint, Case, _&_}
 
@@ -263,7 +264,7 @@ table =
     ∷ []
 
 right : All (λ r. r .is ≡ r .should) table
-unfolding unboundRow tab gathered powF first inverse quotientVanishing reduced generator root point multiplier tag interpolation lentWitness permutation gate rowN rowD rowZ polyN polyD polyL gatePart stepPart startPart polyF quotient prepared rowsFrom pointVerdict brokenGate brokenCopy zeroFactor
+unfolding unboundRow tab gathered powF first inverse quotientVanishing reduced generator root point multiplier tag interpolation lentWitness permutation gate rowN rowD runningZ polyN polyD polyL gatePart stepPart startPart polyF quotient prepared rowsFrom pointVerdict brokenGate brokenCopy zeroFactor
 right = refl & refl & refl & refl & refl & refl & refl & refl & refl & refl & refl & refl & refl & refl & refl & refl & refl & refl & refl & refl & refl & refl & tt
 
 -- THE CASES OF THE LARGEST PRIME
@@ -326,11 +327,11 @@ nextLargest i z =
     nextZ 2013265921 z (rowN 2013265921 4 (witness largest) (largest .beta) (largest .gamma) i) (rowD 2013265921 4 (constraints largest) (witness largest) (largest .beta) (largest .gamma) i)
 
 next-row : (i z r : ℕ) → zLargest i ≡ some z → nextLargest i (some z) ≡ some r → zLargest (suc i) ≡ some r
-unfolding rowZ
+unfolding runningZ
 next-row i z r e f = ap (nextLargest i) e ∙ f
 
 rows-1 : zLargest 1 ≡ some 176312996
-unfolding rowZ powF generator point multiplier tag lentWitness permutation rowN rowD first
+unfolding runningZ powF generator point multiplier tag lentWitness permutation rowN rowD first
 rows-1 = next-row 0 1 176312996 refl (rw (root-4, inverse-D0, nextZ, root-4))
 
 rows-2 : zLargest 2 ≡ some 352415857
@@ -342,7 +343,7 @@ unfolding powF generator point multiplier tag lentWitness permutation rowN rowD 
 rows-3 = next-row 2 352415857 1367991329 rows-2 (rw (root-4, inverse-D2, nextZ, root-4))
 
 rows-largest : zRows 2013265921 4 (constraints largest) (witness largest) (largest .beta) (largest .gamma) ≡ some zNumbers
-unfolding tab rowZ
+unfolding tab runningZ
 rows-largest = gathered-some zLargest (λ i. getD zNumbers i 0) 4 by-row
   where
     by-row : (i : ℕ) → i < 4 → zLargest i ≡ some (getD zNumbers i 0)
@@ -357,7 +358,7 @@ unfolding tab powF generator point interpolation
 z-largest = rw (inverse-4, interpolation, root-4)
 
 largest-right : All (λ r. r .is ≡ r .should) largestTable
-unfolding unboundRow tab gathered powF first quotientVanishing reduced generator point multiplier tag interpolation lentWitness permutation gate rowN rowD rowZ polyN polyD polyL gatePart stepPart startPart polyF quotient prepared rowsFrom pointVerdict brokenGate brokenCopy zeroFactor
+unfolding unboundRow tab gathered powF first quotientVanishing reduced generator point multiplier tag interpolation lentWitness permutation gate rowN rowD runningZ polyN polyD polyL gatePart stepPart startPart polyF quotient prepared rowsFrom pointVerdict brokenGate brokenCopy zeroFactor
 largest-right =
     (rw root-4)
     & refl

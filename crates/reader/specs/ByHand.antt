@@ -17,7 +17,7 @@ use Rattle.transform.specs.Transform.{evaluation, interpolation}
 use Rattle.transform.specs.Passes.{strided, oddWord, passed}
 use Rattle.circuit.specs.Circuit.{Constraints, lentConstraints, lentPublic, lentWitness, permutation, gate}
 use Rattle.circuit.specs.Worked.{publicSelectors, labels}
-use Rattle.protocol.specs.Protocol.{wiredTag, rowN, rowD, rowZ, polyN, polyD, polyL, gatePart, stepPart, startPart, polyF, quotient, preparedPoly, prepared, wiresOf, proved}
+use Rattle.protocol.specs.Protocol.{wiredTag, runningZ, rowN, rowD, polyN, polyD, polyL, gatePart, stepPart, startPart, polyF, quotient, preparedPoly, prepared, wiresOf, proved}
 use Rattle.protocol.specs.Worked.{circuit, publics, witness, zWorked, Case, number, inverted, numbers, perhaps, _&_}
 use Rattle.opening.specs.Opening.{polynomialOf, less, named, evaluationsOf, mixtureOf}
 use Rattle.opening.specs.Worked as opened
@@ -140,5 +140,5 @@ table =
     ∷ []
 
 pub by-hand : All (λ r. r .is ≡ r .should) table
-unfolding tab gathered powF first inverse reduced quotientVanishing remainderVanishing generator root point multiplier tag evaluation interpolation strided passed lentWitness permutation rowN rowD rowZ polyN polyD polyL gatePart stepPart startPart polyF quotient prepared gate polynomialOf evaluationsOf mixtureOf
+unfolding tab gathered powF first inverse reduced quotientVanishing remainderVanishing generator root point multiplier tag evaluation interpolation strided passed lentWitness permutation rowN rowD runningZ polyN polyD polyL gatePart stepPart startPart polyF quotient prepared gate polynomialOf evaluationsOf mixtureOf
 by-hand = refl & refl & refl & refl & refl & refl & refl & refl & refl & refl & refl & refl & refl & refl & refl & refl & refl & refl & refl & refl & refl & refl & refl & refl & refl & refl & refl & refl & refl & refl & refl & refl & refl & refl & refl & refl & refl & refl & refl & refl & refl & refl & refl & refl & refl & refl & refl & refl & refl & refl & refl & refl & refl & refl & tt
