@@ -8,6 +8,7 @@
 -- checkedText     the lines of a transcript, and of the verdict on it
 -- THEOREMS
 -- work-reasons    the prover's reasons see no more of transcript and scratch than their lengths
+-- work-laid       where none of them applies there is a transcript: the text of an accepted call is never that of a refusal
 -- lays-of, laid-of   what `prove` promises is Lays; what is laid where the answer's number is 0
 -- checkable-of    the transcript that an accepted call laid can be judged
 -- proved-text, refused-text   the text of an accepted call, and of a refused one, is the text of the definitions
@@ -36,16 +37,17 @@ use Rattle.transform.specs.Transform.{scratchLength}
 use Rattle.circuit.specs.Circuit.{lentConstraints, lentPublic, lentWitness}
 use Rattle.circuit.specs.Buffers.{preparedLength, transcriptLength}
 use Rattle.circuit.specs.RightlyLent.{RightCircuit, prepare-taken, point-taken}
-use Rattle.protocol.specs.Protocol.{prepared, PointVerdict, accept, reject, pointVerdict, proveReasons}
+use Rattle.protocol.specs.Protocol.{prepared, proved, PointVerdict, accept, reject, pointVerdict, proveReasons}
 use Rattle.protocol.specs.Layout.{prepared-elements, proved-elements}
+use Rattle.protocol.specs.GrandProduct.{grand-product, proved-laid}
 use Rattle.preparing.specs.Promises.{Prepares}
 use Rattle.pointcheck.specs.declared.Judged.{Judged}
 use Rattle.pointcheck.specs.declared.Judged.the-variants.{None}
 use Rattle.pointcheck.specs.declared.PointAnswer.{PointAnswer}
 use Rattle.pointcheck.specs.Promises.{judgedAs, judgedAt, PointChecks}
-use Rattle.witnesses.specs.Accepted.{accepted-of}
+use Rattle.witnesses.specs.Accepted.{Accepted, accepted-of}
 use Rattle.prover.specs.Promises.{provedFrom, Proves}
-use Rattle.archive.specs.Printed.{refusedText, judgedText, verdictText, transcriptText, textLength, workAnswer, workText}
+use Rattle.archive.specs.Printed.{refusedText, judgedText, verdictText, transcriptText, textLength, workAnswer, workTranscript, workText}
 use Rattle.archive.specs.Lines.{Laid}
 
 pub record Lays (p n l : ℕ) (selectors labels witness publics challenges transcript : List ℕ) (r : Answer) (transcript' : List ℕ) : Type 0 where
@@ -108,6 +110,29 @@ module _ (p n l : ℕ) (selectors labels witness publics challenges : List ℕ) 
         lays = P .lays;
       }
 
+  accepted : workAnswer p n l selectors labels witness publics challenges .number ≡ 0
+      → Accepted p n l selectors labels witness publics (replicate (transcriptLength n) 0) (take 3 challenges) (replicate (scratchLength n) 0)
+  unfolding workAnswer
+  accepted e = accepted-of p n l selectors labels witness publics _ (take 3 challenges) _ e
+
+  -- the challenges of the prover are the first three
+  first-three : (T : List ℕ) → provedFrom p n selectors labels witness publics (take 3 challenges) ≡ some T
+      → proved p n (lentConstraints n selectors labels) (lentPublic publics) (lentWitness n witness) (getD challenges 0 0) (getD challenges 1 0) (getD challenges 2 0) ≡ some T
+  first-three T e =
+      rw (getD-take 3 challenges 0 0 (omega arith), getD-take 3 challenges 1 0 (omega arith), getD-take 3 challenges 2 0 (omega arith)) at e
+
+  pub work-laid : workAnswer p n l selectors labels witness publics challenges .number ≡ 0
+      → (T : List ℕ) × (workTranscript p n l selectors labels witness publics challenges ≡ some T)
+  work-laid e =
+      let A = accepted e in
+      let g = grand-product (domain p n (A .admissible)) _ _ _ _ (A .no-zero) in
+      (_, taken _ (first-three _ (proved-laid p n _ _ _ _ (g .0) (g .1 .is) (lentPublic publics) _)))
+    where
+      taken : (T : List ℕ)
+          → proved p n (lentConstraints n selectors labels) (lentPublic publics) (lentWitness n witness) (getD challenges 0 0) (getD challenges 1 0) (getD challenges 2 0) ≡ some T
+          → workTranscript p n l selectors labels witness publics challenges ≡ some T
+      taken T laid = rw (eq-eqb (workAnswer p n l selectors labels witness publics challenges .number) 0 e) laid
+
   -- what is laid where the answer's number is 0
   pub laid-of : (transcript : List ℕ) (r : Answer) (transcript' : List ℕ)
       → Lays p n l selectors labels witness publics challenges transcript r transcript' → r .number ≡ 0
@@ -120,10 +145,8 @@ module _ (p n l : ℕ) (selectors labels witness publics challenges : List ℕ) 
   module _ (e : workAnswer p n l selectors labels witness publics challenges .number ≡ 0) (T : List ℕ)
       (laid : provedFrom p n selectors labels witness publics (take 3 challenges) ≡ some T) where
     pub checkable-of : (text : List ℕ) → Workable p n challenges text → Checkable p n l selectors labels publics T challenges
-    unfolding workAnswer
     checkable-of text W =
-        let A =
-        accepted-of p n l selectors labels witness publics (replicate (transcriptLength n) 0) (take 3 challenges) (replicate (scratchLength n) 0) e in
+        let A = accepted e in
         record {
           few = W .few;
           admissible = A .admissible;
@@ -141,8 +164,7 @@ module _ (p n l : ℕ) (selectors labels witness publics challenges : List ℕ) 
     proved-text =
         let verdict : PointVerdict =
         pointVerdict p n (prepared p n (lentConstraints n selectors labels)) (lentPublic publics) T (getD challenges 0 0) (getD challenges 1 0) (getD challenges 2 0) (getD challenges 3 0) in
-        let there = rw (getD-take 3 challenges 0 0 (omega arith), getD-take 3 challenges 1 0 (omega arith), getD-take 3 challenges 2 0 (omega arith)) at laid in
-        rw (eq-eqb (workAnswer p n l selectors labels witness publics challenges .number) 0 e, workText, there)
+        rw (eq-eqb (workAnswer p n l selectors labels witness publics challenges .number) 0 e, workText, first-three T laid)
         (ap (λ (u : List ℕ). transcriptText n T ++ u) (judged-verdict verdict))
 
   pub refused-text : (r : Answer) → r ≡ workAnswer p n l selectors labels witness publics challenges → r .number ≢ 0
