@@ -14,9 +14,10 @@ use lib.ListN.{length, replicate}
 use Rattle.algebra.specs.Lists.{tab}
 use Rattle.field.specs.Reasons.{Reason, answerOf, isAccepted, badLengths}
 use Rattle.circuit.specs.Buffers.{selectorsLength, labelsLength, witnessLength}
+use Rattle.text.specs.Text.{refusedText}
 use Rattle.sheet.specs.Sheet.{sheetP, sheetN, sheetL, onSelectors, onLabels, onWitness, onPublics, onChallenges, readAnswer}
 use Rattle.archive.specs.declared.Deposited.{Deposited}
-use Rattle.archive.specs.Printed.{refusedText, textLength, workText}
+use Rattle.archive.specs.Printed.{textLength, workText}
 
 -- the numbers are those that the definitions read from the sheet, as they are lent
 unfoldable pub depositText : List ℕ → List ℕ

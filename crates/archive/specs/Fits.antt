@@ -22,8 +22,10 @@ use Rattle.circuit.specs.Buffers.{transcriptLength}
 use Rattle.protocol.specs.Protocol.{PointVerdict, accept, reject, pointVerdict, prepared, proved}
 use Rattle.protocol.specs.Layout.{proved-elements}
 use Rattle.archive.specs.declared.Deposited.{Deposited}
-use Rattle.archive.specs.Printed.{refusedWord, refusedText, verdictText, transcriptText, textLength, provedText, workAnswer, workText}
-use Rattle.archive.specs.Lines.{length-line, transcript-fits}
+use Rattle.text.specs.Text.{refusedWord, refusedText}
+use Rattle.text.specs.Puts.{length-line}
+use Rattle.archive.specs.Printed.{verdictText, transcriptText, textLength, provedText, workAnswer, workText}
+use Rattle.archive.specs.Lines.{transcript-fits}
 use Rattle.sheet.specs.Sheet.{readAnswer}
 use Rattle.archive.specs.Deposit.{depositText, Deposits}
 use Rattle.archive.specs.Sheets.{right-of}

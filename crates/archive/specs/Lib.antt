@@ -1,6 +1,5 @@
 -- Definitions, then theorems.
 pub mod Printed
-pub mod Puts
 pub mod Lines
 pub mod Work
 pub mod Deposit

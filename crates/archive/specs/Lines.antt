@@ -1,7 +1,6 @@
 -- What the functions that put lines ask, and laws of the lines' lengths.
 --
 -- Laid m transcript out    a transcript of m rows, up to 256, and a buffer of the text's length
--- length-line              a line has at most 11 bytes for each number, and its word and byte 10
 -- length-wires             the lines of the wires
 -- length-five              the lines of the five polynomials
 -- transcript-fits          those of a transcript fit, with room for a verdict
@@ -14,18 +13,14 @@ use native.Mathlib.Omega.{arith}
 use lib.ListN.{length, length-append, length-drop}
 use Rattle.circuit.specs.Buffers.{transcriptLength, tStart, wirePart, zPart, tPart}
 use Rattle.circuit.specs.Parts.{short-wire, short-z}
-use Rattle.archive.specs.Printed.{fieldsText, lineText, letterLine, transcriptText, textLength}
-use Rattle.archive.specs.Puts.{length-fields}
+use Rattle.text.specs.Puts.{length-line}
+use Rattle.archive.specs.Printed.{letterLine, transcriptText, textLength}
 
 pub record Laid (m : ℕ) (transcript out : List ℕ) : Type 0 where
   pub some : 2 ≤ m
   pub few : m ≤ 256
   pub long : length transcript ≡ transcriptLength m
   pub room : length out ≡ textLength
-
-pub length-line : (word vs : List ℕ) → length (lineText word vs) ≤ length word + 11 * length vs + 1
-length-line word vs =
-    omega (arith, length-append word (fieldsText vs ++ (10 ∷ [])), length-append (fieldsText vs) (10 ∷ []), length-fields vs)
 
 pub length-wires : (a b c : List ℕ)
     → length (letterLine 97 a ++ (letterLine 98 b ++ letterLine 99 c)) ≤ 11 * length a + 11 * length b + 11 * length c + 6

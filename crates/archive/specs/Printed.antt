@@ -1,11 +1,8 @@
 -- The printed text of a deposit (document 01, "The sheet"), in bytes.
 --
 -- LINES
--- fieldsText vs          a comma and the number in decimal, for each of vs
--- lineText word vs       the word, its fields, and byte 10
--- refusedWord, acceptWord, rejectWord   the words `refused`, `accept`, `reject`
+-- acceptWord, rejectWord the words `accept`, `reject`
 -- letterLine c vs        the line of a polynomial: its letter and its coefficients
--- refusedText r d        the line of a refusal: its number and its detail
 -- verdictText v          the line of a point verdict
 -- judgedText v           the same for the enum of `check_point`
 -- transcriptText         the lines of a, b, c, z, t of a lent transcript
@@ -30,19 +27,9 @@ use Rattle.circuit.specs.Buffers.{transcriptLength, wirePart, zPart, tPart}
 use Rattle.protocol.specs.Protocol.{prepared, proved, PointVerdict, accept, reject, pointVerdict, proveReasons}
 use Rattle.pointcheck.specs.declared.Judged.{Judged}
 use Rattle.pointcheck.specs.declared.Judged.the-variants.{None, Accept, Reject}
-use Rattle.text.specs.Text.{decimal}
+use Rattle.text.specs.Text.{lineText, refusedText}
 
 -- LINES
-
-unfoldable pub fieldsText : List ℕ → List ℕ
-fieldsText [] = []
-fieldsText (v ∷ vs) = 44 ∷ (decimal v ++ fieldsText vs)
-
-abbrev pub lineText : List ℕ → List ℕ → List ℕ
-lineText word vs = word ++ (fieldsText vs ++ (10 ∷ []))
-
-abbrev pub refusedWord : List ℕ
-refusedWord = 114 ∷ 101 ∷ 102 ∷ 117 ∷ 115 ∷ 101 ∷ 100 ∷ []
 
 abbrev pub acceptWord : List ℕ
 acceptWord = 97 ∷ 99 ∷ 99 ∷ 101 ∷ 112 ∷ 116 ∷ []
@@ -52,9 +39,6 @@ rejectWord = 114 ∷ 101 ∷ 106 ∷ 101 ∷ 99 ∷ 116 ∷ []
 
 abbrev pub letterLine : ℕ → List ℕ → List ℕ
 letterLine c vs = lineText (c ∷ []) vs
-
-abbrev pub refusedText : ℕ → ℕ → List ℕ
-refusedText number detail = lineText refusedWord (number ∷ detail ∷ [])
 
 abbrev pub verdictText : PointVerdict → List ℕ
 verdictText accept = acceptWord ++ (10 ∷ [])

@@ -9,7 +9,6 @@
 -- sheet-workable  the prover can be lent the numbers
 -- sheet-text, unread-text   the text of the numbers that are read, and of a refusal, is the text of the deposit
 -- DEPOSITS
--- puts-fits       a text that is put fits
 -- refused-deposit, made-deposit   the promise of `deposit`, where it is turned down and where not
 -- text-long       where it is not turned down, the buffer has the text's length
 --
@@ -29,16 +28,16 @@ use Rattle.algebra.specs.Tables.{length-tab, all-right}
 use Rattle.field.specs.declared.Answer.{Answer}
 use Rattle.field.specs.Fields.{Admissible}
 use Rattle.field.specs.Primes.{rows-power}
-use Rattle.field.specs.Lent.{lengths-same}
-use Rattle.field.specs.Reasons.{answerOf, isAccepted}
+use Rattle.field.specs.Lent.{lengths-same, lengths-none}
+use Rattle.field.specs.Reasons.{answerOf, isAccepted, badLengths}
 use Rattle.field.specs.ReasonLaws.{none-applies}
 use Rattle.circuit.specs.Buffers.{selectorsLength, labelsLength, witnessLength}
+use Rattle.text.specs.Text.{refusedText}
 use Rattle.sheet.specs.Sheet.{sheetRows, sheetP, sheetN, sheetL, onSelectors, onLabels, onWitness, onPublics, onChallenges, padded, sheetDue, readAnswer}
-use Rattle.sheet.specs.Deciding.{taken-of}
+use Rattle.sheet.specs.Deciding.{taken-of, own-answer}
 use Rattle.sheet.specs.declared.SheetAnswer.{SheetAnswer}
 use Rattle.sheet.specs.Promises.{Reads}
-use Rattle.archive.specs.Printed.{refusedText, textLength, workText}
-use Rattle.archive.specs.Puts.{Puts}
+use Rattle.archive.specs.Printed.{textLength, workText}
 use Rattle.archive.specs.Work.{Workable}
 use Rattle.archive.specs.Deposit.{depositText, depositDue, depositReasons, Deposits}
 
@@ -53,7 +52,7 @@ right-of s e =
     let n : ℕ = sheetN s in
     let l : ℕ = sheetL s in
     let P : ℕ → Type 0 = λ a. a < sheetP s in
-    let taken = taken-of s (sheetDue (length s)) refl e in
+    let taken = taken-of s [] tt e .0 in
     record {
       admissible = taken .shape .admissible;
       few-rows = taken .shape .few;
@@ -85,6 +84,7 @@ module _ (s selectors labels witness publics challenges : List ℕ) (r : SheetAn
   read-answer =
       R .answer
       ∙ rw (sym (L .selectors-long), sym (L .labels-long), sym (L .witness-long), sym (L .publics-long), sym (L .challenges-long))
+      (own-answer s (badLengths (sheetDue (length s)) (sheetDue (length s)) ∷ []) (omega arith, tt) (rw (lengths-none {long = sheetDue (length s)} refl)))
 
   module _ (e : r .answer .number ≡ 0) where
     pub right : Right s
@@ -153,9 +153,6 @@ module _ (s selectors labels witness publics challenges : List ℕ) (r : SheetAn
 
 -- DEPOSITS
 
-pub puts-fits : {bytes out : List ℕ} (r : ℕ) (out' : List ℕ) → Puts 0 bytes out r out' → r ≤ length out'
-puts-fits r out' P = omega (arith, P .place, ap length (P .text), length-take r out')
-
 pub refused-deposit : (s text : List ℕ) (a : Answer) → a ≡ answerOf (depositReasons s text) → a .number ≢ 0
     → Deposits s text record { answer = a; length = 0 } text
 refused-deposit s text a e h = record { answer = e; long = rw (ne-eqb (a .number) 0 h); prints = rw (ne-eqb (a .number) 0 h) }
@@ -166,17 +163,12 @@ text-long s text a e h =
     cc (lengths-same (length s ∷ length text ∷ []) (depositDue (length s)) refl (none .0))
 
 pub made-deposit : (s text : List ℕ) (a : Answer) (end : ℕ) (text' last : List ℕ) → a ≡ answerOf (depositReasons s text) → a .number ≡ 0
-    → length text' ≡ length text → Puts 0 (depositText s) text end text' → last ≡ take end text' ++ replicate (length text' - end) 0
+    → length text' ≡ length text → end ≡ length (depositText s) → last ≡ depositText s ++ replicate (length text' - length (depositText s)) 0
     → Deposits s text record { answer = a; length = end } last
-made-deposit s text a end text' last e h k P f =
-    let at : end ≡ length (depositText s) = omega (arith, P .place) in
-    let left : length text' - end ≡ textLength - length (depositText s) = omega (arith, P .place, text-long s text a e h) in
+made-deposit s text a end text' last e h k at f =
+    let left : length text' ≡ textLength = omega (arith, text-long s text a e h) in
     record {
       answer = e;
       long = rw (eq-eqb (a .number) 0 h) at;
-      prints =
-          f
-          ∙ ap (λ (l : List ℕ). l ++ replicate (length text' - end) 0) (P .text)
-          ∙ ap (λ (m : ℕ). depositText s ++ replicate m 0) left
-          ∙ rw (eq-eqb (a .number) 0 h);
+      prints = f ∙ rw (eq-eqb (a .number) 0 h, left);
     }

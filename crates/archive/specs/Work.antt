@@ -47,7 +47,8 @@ use Rattle.pointcheck.specs.declared.PointAnswer.{PointAnswer}
 use Rattle.pointcheck.specs.Promises.{judgedAs, judgedAt, PointChecks}
 use Rattle.witnesses.specs.Accepted.{Accepted, accepted-of}
 use Rattle.prover.specs.Promises.{provedFrom, Proves}
-use Rattle.archive.specs.Printed.{refusedText, judgedText, verdictText, transcriptText, textLength, workAnswer, workTranscript, workText}
+use Rattle.text.specs.Text.{refusedText}
+use Rattle.archive.specs.Printed.{judgedText, verdictText, transcriptText, textLength, workAnswer, workTranscript, workText}
 use Rattle.archive.specs.Lines.{Laid}
 
 pub record Lays (p n l : ℕ) (selectors labels witness publics challenges transcript : List ℕ) (r : Answer) (transcript' : List ℕ) : Type 0 where

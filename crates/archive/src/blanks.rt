@@ -37,13 +37,6 @@ pub fn blank_4096() -> [u32; 4096]
     [0; 4096]
 }
 
-// One byte more than a sheet may have, for a program that reads one: input that fills it is too long, however much follows.
-pub fn sheet_room() -> [u8; 65537]
-    ensures { λ r. ⌜ 65537 ≡ length r ⌝ }
-{
-    [0; 65537]
-}
-
 // The length of the buffer that the text is printed into.
 pub fn text_room() -> [u8; 20480]
     ensures { λ r. ⌜ 20480 ≡ length r ⌝ }

@@ -5,18 +5,16 @@ ghost use mathlib.Core.Path.{_≡_};
 ghost use Prim.Native.Nat.{_≤_};
 ghost use lib.ListN.{length, take};
 ghost use Rattle.circuit.specs.Buffers.{selectorsLength, labelsLength, witnessLength};
+ghost use Rattle.text.specs.Puts.{Puts};
 ghost use Rattle.archive.specs.Deposit.{depositText, Deposits};
 ghost use Rattle.archive.specs.Printed.{textLength, workText};
-ghost use Rattle.archive.specs.Puts.{Puts};
 ghost use Rattle.archive.specs.Work.{Workable};
 use field::Answer;
 
 mod blanks;
 mod lines;
-mod print;
 mod work;
 
-pub use blanks::sheet_room;
 pub use blanks::text_room;
 
 // The answer of `deposit`: how many bytes of the buffer are text; 0 if refused.
@@ -93,7 +91,7 @@ fn print_sheet(sheet: &[u8], text: &mut [u8]) -> usize
             text,
         );
     }
-    lines::put_refused(number, detail, text)
+    text::put_refused(number, detail, text)
 }
 
 // The text of a sheet and zeros behind it, in a buffer of the text's length. A sheet that is refused has a text too.
@@ -108,7 +106,7 @@ pub fn deposit(sheet: &[u8], text: &mut [u8]) -> Deposited
         return Deposited { answer, length: 0 };
     }
     let end = print_sheet(sheet, text);
-    print::clear(&mut text[end..]);
+    text::clear(&mut text[end..]);
     Deposited {
         answer,
         length: end,

@@ -2,21 +2,12 @@
 ghost use mathlib.Core.List.{_++_};
 ghost use Prim.Native.Nat.{_+_, _*_, _≤_};
 ghost use lib.ListN.{length};
-ghost use Rattle.archive.specs.Printed.{letterLine, refusedText, judgedText, transcriptText};
+ghost use Rattle.text.specs.Puts.{Puts};
+ghost use Rattle.archive.specs.Printed.{letterLine, judgedText, transcriptText};
 ghost use Rattle.archive.specs.Lines.{Laid};
-ghost use Rattle.archive.specs.Puts.{Puts};
-use crate::print::put_line;
-use crate::print::put_word;
 use pointcheck::Judged;
-
-// The line of a refusal, at the buffer's start.
-pub fn put_refused(number: u32, detail: u32, out: &mut [u8]) -> usize
-    requires { ⌜ 30 ≤ length (now out) ⌝ }
-    ensures { λ r. ⌜ Puts 0 (refusedText number detail) (now (out .entry)) r (now (out .exit)) ⌝ }
-{
-    let fields = [number, detail];
-    put_line(b"refused", &fields, out, 0)
-}
+use text::put_line;
+use text::put_word;
 
 // The line of a verdict.
 pub fn put_judged(verdict: Judged, out: &mut [u8], at: usize) -> usize

@@ -8,15 +8,15 @@ ghost use Rattle.circuit.specs.Buffers.{preparedLength, transcriptLength};
 ghost use Rattle.circuit.specs.RightlyLent.{RightCircuit};
 ghost use Rattle.protocol.specs.Protocol.{prepared as Protocol·prepared};
 ghost use Rattle.pointcheck.specs.Promises.{judgedAt};
+ghost use Rattle.text.specs.Puts.{Puts};
 ghost use Rattle.archive.specs.Printed.{textLength, workText};
-ghost use Rattle.archive.specs.Puts.{Puts};
 ghost use Rattle.archive.specs.Work.{Lays, Judgeable, Checkable, Workable, judgedFrom, checkedText};
 use crate::blanks;
 use crate::lines::put_judged;
-use crate::lines::put_refused;
 use crate::lines::put_transcript;
 use field::Answer;
 use pointcheck::Judged;
+use text::put_refused;
 
 // The transcript, or why the prover turns the numbers down. The first three challenges are beta, gamma, alpha.
 fn lay(

@@ -3,7 +3,7 @@ use libc::STDIN_FILENO;
 use libc::STDOUT_FILENO;
 
 fn main() {
-    let mut sheet = archive::sheet_room();
+    let mut sheet = sheet::sheet_room();
     let mut text = archive::text_room();
     let n = io::read_full(STDIN_FILENO, &mut sheet);
     let made = archive::deposit(&sheet[..n], &mut text);

@@ -2,6 +2,7 @@
 --
 -- none-applies     an answer with number 0 means that no reason of the list applies (no reason has number 0)
 -- taken            where no reason of the list applies, the answer is number 0, detail 0
+-- numbers-append   of two lists of reasons, none has number 0
 -- answerOf-append  of two lists of reasons: the answer of the first, unless none of its reasons applies
 -- both-none        an answer of two lists with number 0: so is that of each
 -- both-taken       where both answers are number 0, detail 0, so is that of the two lists
@@ -42,6 +43,10 @@ none-applies (r ∷ rs) n e = go (r .applies) refl e (none-applies rs (n .1))
 pub taken : (rs : List Reason) → All (λ r. r .applies ≡ false) rs → answerOf rs ≡ record { number = 0; detail = 0 }
 taken [] a = refl
 taken (r ∷ rs) a = rw (a .0) (taken rs (a .1))
+
+pub numbers-append : (rs ss : List Reason) → All (λ r. r .number ≢ 0) rs → All (λ r. r .number ≢ 0) ss → All (λ r. r .number ≢ 0) (rs ++ ss)
+numbers-append [] ss a b = b
+numbers-append (r ∷ rs) ss a b = (a .0, numbers-append rs ss (a .1) b)
 
 pub answerOf-append : (rs ss : List Reason) → All (λ r. r .number ≢ 0) rs
     → answerOf (rs ++ ss) ≡ cond (isAccepted (answerOf rs)) (answerOf ss) (answerOf rs)

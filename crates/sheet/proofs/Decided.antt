@@ -8,10 +8,10 @@
 -- begun            what reading the lines behind the first asks
 -- behind           where the first line was read, the reasons behind its own answer for all
 -- refused-as, accepted-as   the two answers of deciding
--- roomy            the lent buffers have the lengths due, where no reason applies
+-- roomy            the lent buffers have the lengths due, where the reason of the lengths does not apply
 --
 -- Assumes nothing.
-use mathlib.Core.Path.{_≡_, sym, ap, _∙_, subst}
+use mathlib.Core.Path.{_≡_, refl, sym, ap, _∙_, subst}
 use mathlib.Core.Bool.{true, false}
 use mathlib.Core.List.{List, [], _∷_, _++_}
 use Prim.Native.Nat.{ℕ, suc, _+_, _≤_, _<_}
@@ -22,17 +22,17 @@ use borrow.Author.Tests.{eq-eqb, ne-eqb, lt-ltb, le-ltb}
 use Rattle.algebra.specs.Lists.{tab}
 use Rattle.algebra.specs.Tables.{length-tab, getD-tab}
 use Rattle.field.specs.declared.Answer.{Answer}
-use Rattle.field.specs.Lent.{Shape}
+use Rattle.field.specs.Lent.{Shape, lengths-same}
 use Rattle.field.specs.Primes.{rows-power}
-use Rattle.field.specs.Reasons.{answerOf, shapeReasons}
-use Rattle.field.specs.ReasonLaws.{refused-later}
+use Rattle.field.specs.Reasons.{Reason, answerOf, shapeReasons, badLengths}
+use Rattle.field.specs.ReasonLaws.{none-applies, refused-later}
 use Rattle.text.specs.Text.{numberAt, fieldAt, isLineAt}
 use Rattle.sheet.specs.declared.SheetAnswer.{SheetAnswer}
-use Rattle.sheet.specs.Sheet.{sheetRows, sheetP, sheetN, sheetL, linesDue, lineAt, badLine, firstReasons, lineReasons, sheetNumbers, behindReasons, readReasons}
+use Rattle.sheet.specs.Sheet.{sheetRows, sheetP, sheetN, sheetL, linesDue, lineAt, badLine, firstReasons, lineReasons, sheetDue, sheetNumbers, behindReasons, readReasons}
 use Rattle.sheet.specs.Table.{Held, Full, Begins, Room}
-use Rattle.sheet.specs.Deciding.{tableNumbers, Opened, Decides, first-numbers, Taken}
+use Rattle.sheet.specs.Deciding.{tableNumbers, Opened, Decides, first-numbers}
 use Rattle.sheet.proofs.LineLaws.{second-start}
-use Rattle.sheet.proofs.TableLaws.{elements-same, selectors-list-same, labels-list-same}
+use Rattle.sheet.specs.TableLaws.{elements-same, selectors-list-same, labels-list-same}
 
 -- THE FIRST LINE
 
@@ -95,16 +95,16 @@ module _ (s : List ℕ) (p n l at : ℕ) (opened : Opened s p n l at) where
         within = opened .within;
       }
 
-  pub behind : (long : List ℕ) (a b : Answer) → a ≡ answerOf (firstReasons s) → a .number ≡ 0 → b ≡ answerOf (behindReasons s p n l long)
-      → b ≡ answerOf (readReasons s long)
-  behind long a b e h f =
-      refused-later (firstReasons s) (behindReasons s (sheetP s) (sheetN s) (sheetL s) long) (first-numbers s) a b e h
+  pub behind : (lengths : List Reason) (a b : Answer) → a ≡ answerOf (firstReasons s) → a .number ≡ 0 → b ≡ answerOf (behindReasons s p n l lengths)
+      → b ≡ answerOf (readReasons s lengths)
+  behind lengths a b e h f =
+      refused-later (firstReasons s) (behindReasons s (sheetP s) (sheetN s) (sheetL s) lengths) (first-numbers s) a b e h
       (f ∙ rw (opened .p-is, opened .n-is, opened .l-is))
 
-module _ (s long : List ℕ) (a : Answer) (is : a ≡ answerOf (readReasons s long)) (t : List ℕ) where
-  pub refused-as : (r : SheetAnswer) → r ≡ record { answer = a; p = 0; n = 0; l = 0 } → (a .number ≡ 0 → ⊥) → Decides s long r t
+module _ (s : List ℕ) (lengths : List Reason) (a : Answer) (is : a ≡ answerOf (readReasons s lengths)) (t : List ℕ) where
+  pub refused-as : (r : SheetAnswer) → r ≡ record { answer = a; p = 0; n = 0; l = 0 } → (a .number ≡ 0 → ⊥) → Decides s lengths r t
   refused-as r e h =
-      subst (λ (r : SheetAnswer). Decides s long r t) (sym e)
+      subst (λ (r : SheetAnswer). Decides s lengths r t) (sym e)
       (record {
         answer = is;
         p-is = rw (ne-eqb (a .number) 0 h);
@@ -114,7 +114,7 @@ module _ (s long : List ℕ) (a : Answer) (is : a ≡ answerOf (readReasons s lo
       })
 
   pub accepted-as : (p n l at : ℕ) → a .number ≡ 0 → Opened s p n l at → Held s n l (linesDue n l) t
-      → Decides s long (record { answer = a; p = p; n = n; l = l }) t
+      → Decides s lengths (record { answer = a; p = p; n = n; l = l }) t
   accepted-as p n l at h opened held =
       record {
         answer = is;
@@ -125,13 +125,15 @@ module _ (s long : List ℕ) (a : Answer) (is : a ≡ answerOf (readReasons s lo
       }
 
 pub roomy : (s selectors labels witness publics challenges : List ℕ)
-    → Taken s (length s ∷ length selectors ∷ length labels ∷ length witness ∷ length publics ∷ length challenges ∷ [])
+    → answerOf (badLengths (length s ∷ length selectors ∷ length labels ∷ length witness ∷ length publics ∷ length challenges ∷ []) (sheetDue (length s)) ∷ []) .number ≡ 0
     → Room selectors labels witness publics challenges
-roomy s selectors labels witness publics challenges taken =
+roomy s selectors labels witness publics challenges e =
+    let long : List ℕ = length s ∷ length selectors ∷ length labels ∷ length witness ∷ length publics ∷ length challenges ∷ [] in
+    let same : long ≡ sheetDue (length s) = lengths-same long (sheetDue (length s)) refl (none-applies (badLengths long (sheetDue (length s)) ∷ []) (omega arith, tt) e .0) in
     record {
-      selectors-long = cc (taken .lengths);
-      labels-long = cc (taken .lengths);
-      witness-long = cc (taken .lengths);
-      publics-long = cc (taken .lengths);
-      challenges-long = cc (taken .lengths);
+      selectors-long = cc same;
+      labels-long = cc same;
+      witness-long = cc same;
+      publics-long = cc same;
+      challenges-long = cc same;
     }

@@ -1,6 +1,5 @@
 -- Laws that the functions' proofs cite.
 pub mod BlockLaws
 pub mod LineLaws
-pub mod TableLaws
 pub mod Decided
 pub mod Reading

@@ -1,7 +1,5 @@
--- The lines of a sheet: how many numbers they have, the search for the first one out of form, and the table that is filled line by line.
+-- The lines of a sheet: the search for the first one out of form, and the table that is filled line by line.
 --
--- due-circuit, due-witness, due-publics, due-challenges   how many numbers a line has, by where it stands
--- due-most   a line has at most 8 numbers
 -- isBad s n l i        line i is missing or out of form
 -- bad-begins           the search for such a line, from line 1 on
 -- bad-le               what it finds is at most the number of lines
@@ -19,10 +17,8 @@ use Prim.Native.Nat.{ℕ, _+_, _*_, _-_, _≤_, _<_}
 use native.Mathlib.Decide.{decLt}
 use native.Mathlib.Numerals.{add-one}
 use native.Mathlib.Omega.{arith}
-use lib.Dec.{eqb, leb}
 use lib.ListN.{length, getD, take, List·getD-append}
 use lib.Seq.{length-take-le, getD-take, getD-append-add}
-use borrow.Author.Tests.{ne-eqb, le-leb, lt-leb}
 use borrow.Rule.Slice.PartMut.{putMid, midOf, postOf, mid-len}
 use Rattle.algebra.specs.Lists.{tab}
 use Rattle.algebra.specs.Modular.{first}
@@ -31,33 +27,7 @@ use Rattle.algebra.specs.Tables.{length-tab, getD-tab}
 use Rattle.text.specs.Text.{numberAt, fieldAt, isLineAt}
 use Rattle.sheet.specs.Sheet.{fieldsDue, linesDue, lineAt, numberOf, badLine}
 use Rattle.sheet.specs.Table.{Held}
-use Rattle.sheet.specs.ReadBack.{picked}
-
-module _ (n l i : ℕ) where
-  pub due-circuit : 0 < i → i ≤ n → fieldsDue n l i ≡ 8
-  unfolding fieldsDue
-  due-circuit g h = rw (ne-eqb i 0 (λ u. omega arith), le-leb i n h)
-
-  pub due-witness : n < i → i ≤ n + n → fieldsDue n l i ≡ 3
-  unfolding fieldsDue
-  due-witness g h = rw (ne-eqb i 0 (λ u. omega arith), lt-leb i n g, le-leb i (n + n) h)
-
-  pub due-publics : n + n < i → i ≤ n + n + l → fieldsDue n l i ≡ 1
-  unfolding fieldsDue
-  due-publics g h =
-      rw (ne-eqb i 0 (λ u. omega arith), lt-leb i n (omega arith), lt-leb i (n + n) g, le-leb i (n + n + l) h)
-
-  pub due-challenges : n + n + l < i → fieldsDue n l i ≡ 4
-  unfolding fieldsDue
-  due-challenges g =
-      rw (ne-eqb i 0 (λ u. omega arith), lt-leb i n (omega arith), lt-leb i (n + n) (omega arith), lt-leb i (n + n + l) g)
-
-pub due-most : (n l i : ℕ) → fieldsDue n l i ≤ 8
-unfolding fieldsDue
-due-most n l i =
-    let P : ℕ → Type 0 = λ m. m ≤ 8 in
-    picked P (eqb i 0) (omega arith)
-    (picked P (leb i n) (omega arith) (picked P (leb i (n + n)) (omega arith) (picked P (leb i (n + n + l)) (omega arith) (omega arith))))
+use Rattle.sheet.specs.Due.{due-most}
 
 abbrev pub isBad : List ℕ → ℕ → ℕ → ℕ → Bool
 isBad s n l i = not (isLineAt s (lineAt s n l i) (fieldsDue n l i))

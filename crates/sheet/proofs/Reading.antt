@@ -6,23 +6,26 @@
 -- read-refused     a reason applies, and nothing is written
 --
 -- Assumes nothing.
-use mathlib.Core.Path.{_≡_, refl, sym, ap, _∙_}
+use mathlib.Core.Path.{_≡_, sym, ap, _∙_}
 use mathlib.Core.List.{List, [], _∷_}
 use Prim.Native.Nat.{ℕ}
+use native.Mathlib.Omega.{arith}
 use lib.ListN.{length}
 use borrow.Author.Tests.{eq-eqb, ne-eqb}
+use Rattle.field.specs.Reasons.{Reason, answerOf, badLengths}
 use Rattle.circuit.specs.Buffers.{selectorsLength, labelsLength, witnessLength}
 use Rattle.sheet.specs.declared.SheetAnswer.{SheetAnswer}
-use Rattle.sheet.specs.Sheet.{sheetRows, sheetN, sheetL, onSelectors, onLabels, onWitness, onPublics, onChallenges}
+use Rattle.sheet.specs.Sheet.{sheetRows, sheetN, sheetL, onSelectors, onLabels, onWitness, onPublics, onChallenges, sheetDue}
 use Rattle.sheet.specs.Table.{Full, Room, Laid, selectorsIn, labelsIn, witnessIn, publicsIn, challengesIn}
 use Rattle.sheet.specs.Deciding.{Decides, Taken, taken-of}
 use Rattle.sheet.specs.Promises.{Reads}
 use Rattle.sheet.proofs.BlockLaws.{padded-same}
-use Rattle.sheet.proofs.TableLaws.{selectors-same, labels-same, witness-same, publics-same, challenges-same}
+use Rattle.sheet.specs.TableLaws.{selectors-same, labels-same, witness-same, publics-same, challenges-same}
 use Rattle.sheet.proofs.Decided.{full-of, roomy}
 
 module _ (s selectors labels witness publics challenges : List ℕ) (r : SheetAnswer) (t : List ℕ)
-    (d : Decides s (length s ∷ length selectors ∷ length labels ∷ length witness ∷ length publics ∷ length challenges ∷ []) r t) where
+    (d : Decides s (badLengths (length s ∷ length selectors ∷ length labels ∷ length witness ∷ length publics ∷ length challenges ∷ []) (sheetDue (length s)) ∷ []) r t)
+    where
   module _ (zero : r .answer .number ≡ 0) where
     rows : r .n ≡ sheetN s
     rows = d .n-is ∙ rw (eq-eqb (r .answer .number) 0 zero)
@@ -30,15 +33,18 @@ module _ (s selectors labels witness publics challenges : List ℕ) (r : SheetAn
     inputs : r .l ≡ sheetL s
     inputs = d .l-is ∙ rw (eq-eqb (r .answer .number) 0 zero)
 
-    taken : Taken s (length s ∷ length selectors ∷ length labels ∷ length witness ∷ length publics ∷ length challenges ∷ [])
-    taken = taken-of s _ refl (ap (λ a. a .number) (sym (d .answer)) ∙ zero)
+    abbrev lengths : Reason
+    lengths = badLengths (length s ∷ length selectors ∷ length labels ∷ length witness ∷ length publics ∷ length challenges ∷ []) (sheetDue (length s))
+
+    taken : Taken s × (answerOf (lengths ∷ []) .number ≡ 0)
+    taken = taken-of s (lengths ∷ []) (omega arith, tt) (ap (λ a. a .number) (sym (d .answer)) ∙ zero)
 
     pub buffers : Room selectors labels witness publics challenges
-    buffers = roomy s selectors labels witness publics challenges taken
+    buffers = roomy s selectors labels witness publics challenges (taken .1)
 
     module _ (long : length t ≡ 6160) where
       filled : Full (sheetN s) (sheetL s) t
-      filled = full-of t (taken .shape) long
+      filled = full-of t (taken .0 .shape) long
 
       pub ready : (t' : List ℕ) → t' ≡ t → Full (r .n) (r .l) t'
       ready t' e = rw (e, rows, inputs) filled

@@ -3,6 +3,7 @@
 -- laid-split     lists laid end to end, the first m and then the rest
 -- laid-same      lists that agree are laid the same
 -- laid-one       one list
+-- laid-long      lists of at most `most` numbers each, laid end to end
 -- LINES OF A TEXT: line i has the numbers `line i`, which are below 2^32, and as many as a sheet of n and l has there
 -- starts         where line i starts
 -- in-form        line i is in form
@@ -14,7 +15,8 @@
 use mathlib.Core.Path.{_≡_, refl, sym, ap, ap₂, subst, _∙_}
 use mathlib.Core.Bool.{Bool, true, false, not, true≢false}
 use mathlib.Core.List.{List, _++_, append-assoc, append-nil}
-use Prim.Native.Nat.{ℕ, zero, suc, _+_, _-_, _≤_, _<_}
+use Prim.Native.Nat.{ℕ, zero, suc, _+_, _*_, _-_, _≤_, _<_}
+use native.Mathlib.Nat.{mul-suc}
 use native.Mathlib.Decide.{decLt}
 use native.Mathlib.Omega.{arith}
 use lib.ListN.{length, getD, length-append}
@@ -43,6 +45,12 @@ laid-same f g (suc m) h = ap₂ (λ (a b : List ℕ). a ++ b) (laid-same f g m (
 pub laid-one : (f : ℕ → List ℕ) → laid f 1 ≡ f 0
 unfolding laid
 laid-one f = refl
+
+pub laid-long : (f : ℕ → List ℕ) (most m : ℕ) → ((i : ℕ) → i < m → length (f i) ≤ most) → length (laid f m) ≤ most * m
+unfolding laid
+laid-long f most zero h = omega arith
+laid-long f most (suc m) h =
+    omega (arith, length-append (laid f m) (f m), laid-long f most m (λ i k. h i (omega arith)), h m (omega arith), mul-suc most m)
 
 module _ (n l : ℕ) (line : ℕ → List ℕ) (small : (i : ℕ) → Small (line i)) (long : (i : ℕ) → length (line i) ≡ fieldsDue n l i)
     (some : (i : ℕ) → 0 < fieldsDue n l i) where

@@ -4,10 +4,8 @@
 -- SheetBack            what is read off the text s
 -- sheet-back           THE THEOREM, for the text of the numbers
 -- sheetLine            the numbers of line i of that text
--- picked               what holds of both of two things holds of the one that a test picks
--- some-due             every line has a number
 -- Admitted             what the reasons ask of the numbers: p and n are admissible on a sheet, selectors and labels are a circuit, elements are below p
--- sheet-taken          a sheet that reads so, of at most 65,536 bytes, is accepted, where the lent buffers have the lengths due
+-- sheet-taken          a sheet that reads so, of at most 65,536 bytes, is accepted
 --
 -- Assumes nothing.
 use mathlib.Core.Path.{_≡_, refl, sym, ap, ap₂, subst, _∙_}
@@ -23,7 +21,6 @@ use borrow.Author.Tests.{ne-eqb, le-leb, lt-leb, le-ltb}
 use Rattle.algebra.specs.Lists.{tab, All}
 use Rattle.algebra.specs.Tables.{length-tab, getD-tab, tab-ext, tab-getD, all-append, all-tab}
 use Rattle.field.specs.Fields.{isField, isRows}
-use Rattle.field.specs.Lent.{lengths-none}
 use Rattle.field.specs.ReasonLaws.{elements-none}
 use Rattle.transform.specs.Parts.{laid}
 use Rattle.circuit.specs.Circuit.{lentConstraints}
@@ -31,8 +28,9 @@ use Rattle.circuit.specs.Buffers.{selectorsLength, labelsLength, witnessLength}
 use Rattle.circuit.specs.Reasons.{unboundRow}
 use Rattle.circuit.specs.RightlyLent.{RightCircuit, selectors-right, labels-right, at-none, bound}
 use Rattle.text.specs.Text.{isLineAt, lineOf}
-use Rattle.sheet.specs.Sheet.{sheetRows, fieldsDue, linesDue, lineAt, numberOf, sheetP, sheetN, sheetL, badLine, isExtra, onSelectors, onLabels, onWitness, onPublics, onChallenges, sheetElements, sheetDue, readAnswer}
+use Rattle.sheet.specs.Sheet.{sheetRows, fieldsDue, linesDue, lineAt, numberOf, sheetP, sheetN, sheetL, badLine, isExtra, onSelectors, onLabels, onWitness, onPublics, onChallenges, sheetElements, readAnswer}
 use Rattle.sheet.specs.Written.{column, circuitLine, witnessLine, publicLine, sheetText, Small, Right}
+use Rattle.sheet.specs.Due.{picked, some-due}
 use Rattle.sheet.specs.LaidLines.{laid-split, laid-same, laid-one, in-form, reads, no-bad, no-extra}
 
 pub record SheetBack (s : List ℕ) (p n l : ℕ) (selectors labels witness publics challenges : List ℕ) : Type 0 where
@@ -54,20 +52,9 @@ word-small [] k a = omega arith
 word-small (x ∷ xs) zero a = a .0
 word-small (x ∷ xs) (suc k) a = word-small xs k (a .1)
 
-pub picked : {A : Type 0} (P : A → Type 0) (b : Bool) {x y : A} → P x → P y → P (cond b x y)
-picked P true p q = p
-picked P false p q = q
-
 length-pick : (b : Bool) (x y : List ℕ) (k m : ℕ) → length x ≡ k → length y ≡ m → length (cond b x y) ≡ cond b k m
 length-pick true x y k m p q = p
 length-pick false x y k m p q = q
-
-pub some-due : (n l i : ℕ) → 0 < fieldsDue n l i
-unfolding fieldsDue
-some-due n l i =
-    let P : ℕ → Type 0 = λ m. 0 < m in
-    picked P (eqb i 0) (omega arith)
-    (picked P (leb i n) (omega arith) (picked P (leb i (n + n)) (omega arith) (picked P (leb i (n + n + l)) (omega arith) (omega arith))))
 
 module _ (p n l : ℕ) (selectors labels witness publics challenges : List ℕ) where
   unfoldable pub sheetLine : ℕ → List ℕ
@@ -276,7 +263,6 @@ module _ (s : List ℕ) (p n l : ℕ) (selectors labels witness publics challeng
         back .none-bad,
         le-ltb (linesDue n l) (linesDue n l) (omega arith),
         back .none-extra,
-        lengths-none {long = sheetDue (length s)} refl,
         elements-none p (sheetElements s n l) elements-below,
         elements-none (3 * n) (tab (onLabels s n l) (labelsLength n)) lent-labels-below,
         none-unbound,

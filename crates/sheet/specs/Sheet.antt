@@ -20,10 +20,10 @@
 -- lineReasons          of the lines behind it
 -- sheetDue bytes       the lengths due, for a sheet of so many bytes
 -- sheetNumbers         of the elements, labels and public rows, as they are lent
--- behindReasons        all reasons behind those of the first line, `long` being the table of lengths
--- readReasons s long   all reasons of `read`
--- sheetReasons         the same, for the lengths of the five lent buffers
--- readAnswer s         the answer of reading the sheet into buffers of the lengths due
+-- behindReasons        all reasons behind those of the first line; `lengths` are those of a call's lent buffers, which stand between the lines and the numbers
+-- readReasons s lengths   all reasons of a call that reads the sheet s
+-- sheetReasons         those of `read`, for the lengths of the five lent buffers
+-- readAnswer s         the answer of the sheet's own reasons: of reading it into buffers of the lengths due
 --
 -- Assumes nothing.
 use mathlib.Core.Bool.{Bool, not, cond, _||_}
@@ -124,15 +124,15 @@ abbrev pub sheetNumbers : List ℕ → ℕ → ℕ → ℕ → List Reason
 sheetNumbers s p n l =
     numberReasons p n l (sheetElements s n l) (tab (onSelectors s n l) (selectorsLength n)) (tab (onLabels s n l) (labelsLength n))
 
-abbrev pub behindReasons : (s : List ℕ) (p n l : ℕ) (long : List ℕ) → List Reason
-behindReasons s p n l long = lineReasons s n l ++ (badLengths long (sheetDue (length s)) ∷ sheetNumbers s p n l)
+abbrev pub behindReasons : (s : List ℕ) (p n l : ℕ) (lengths : List Reason) → List Reason
+behindReasons s p n l lengths = lineReasons s n l ++ (lengths ++ sheetNumbers s p n l)
 
-abbrev pub readReasons : (s long : List ℕ) → List Reason
-readReasons s long = firstReasons s ++ behindReasons s (sheetP s) (sheetN s) (sheetL s) long
+abbrev pub readReasons : (s : List ℕ) (lengths : List Reason) → List Reason
+readReasons s lengths = firstReasons s ++ behindReasons s (sheetP s) (sheetN s) (sheetL s) lengths
 
 abbrev pub sheetReasons : (s : List ℕ) (selectors labels witness publics challenges : ℕ) → List Reason
 sheetReasons s selectors labels witness publics challenges =
-    readReasons s (length s ∷ selectors ∷ labels ∷ witness ∷ publics ∷ challenges ∷ [])
+    readReasons s (badLengths (length s ∷ selectors ∷ labels ∷ witness ∷ publics ∷ challenges ∷ []) (sheetDue (length s)) ∷ [])
 
 abbrev pub readAnswer : List ℕ → Answer
-readAnswer s = answerOf (readReasons s (sheetDue (length s)))
+readAnswer s = answerOf (readReasons s [])

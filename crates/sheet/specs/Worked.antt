@@ -17,7 +17,7 @@ use Rattle.field.specs.Fields.{isField, isRows, greatestRows}
 use Rattle.field.specs.Reasons.{answerOf, firstOther, firstAbove}
 use Rattle.transform.specs.Parts.{laid}
 use Rattle.circuit.specs.Reasons.{unboundRow}
-use Rattle.text.specs.Text.{isDigit, digitsEnd, valueOf, isNumberAt, numberAt, fieldAt, isFieldAt, isLineAt, decimalOf, fieldsOf}
+use Rattle.text.specs.Text.{isDigit, digitsEnd, valueOf, isNumberAt, numberAt, fieldAt, isFieldAt, isLineAt, decimalOf, fieldsText, fieldsOf}
 use Rattle.sheet.specs.Sheet.{fieldsDue, lineAt, numberOf, sheetP, sheetN, sheetL, badLine, onSelectors, onLabels, onWitness, onPublics, onChallenges, sheetReasons, readAnswer}
 use Rattle.sheet.specs.Written.{sheetText}
 
@@ -97,7 +97,7 @@ pub record Worked : Type 0 where
   pub short : answerOf (sheetReasons bytes 1280 768 767 256 4) ≡ record { number = 6; detail = 4 }
 
 pub worked : Worked
-unfolding tab first isDigit digitsEnd valueOf isNumberAt numberAt fieldAt isFieldAt isLineAt fieldsDue lineAt numberOf badLine isField isRows greatestRows firstOther firstAbove unboundRow laid decimalOf fieldsOf ones
+unfolding tab first isDigit digitsEnd valueOf isNumberAt numberAt fieldAt isFieldAt isLineAt fieldsDue lineAt numberOf badLine isField isRows greatestRows firstOther firstAbove unboundRow laid decimalOf fieldsText fieldsOf ones
 worked =
     record {
       p-is = refl;

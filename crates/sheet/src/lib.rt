@@ -1,6 +1,6 @@
 // Reading a sheet (document 01, "The sheet"): why it is turned down, or p, n, l and its numbers laid out as they are lent.
 //
-// The public call is `read`. Lines count from 0 in the code, as in the definitions.
+// The public call is `read`. The layers above that read a sheet for a call of their own begin with `decide`. Lines count from 0 in the code, as in the definitions.
 ghost use mathlib.Core.Path.{_≡_};
 ghost use lib.ListN.{length};
 ghost use Rattle.sheet.specs.Promises.{Reads};
@@ -11,6 +11,8 @@ mod laying;
 mod lines;
 mod numbers;
 mod reasons;
+
+pub use reasons::decide;
 
 // The answer of `read`: p, n and l are 0 if refused.
 pub struct SheetAnswer {
@@ -24,10 +26,17 @@ pub struct SheetAnswer {
 const ROWS: u32 = 256;
 
 // Room for the table of a sheet's numbers: 8 words for each of the 770 lines that ROWS rows and as many public inputs have.
-fn blank() -> [u32; 6160]
+pub fn table_room() -> [u32; 6160]
     ensures { λ r. ⌜ 6160 ≡ length r ⌝ }
 {
     [0; 6160]
+}
+
+// One byte more than a sheet may have, for a program that reads one: input that fills it is too long, however much follows.
+pub fn sheet_room() -> [u8; 65537]
+    ensures { λ r. ⌜ 65537 ≡ length r ⌝ }
+{
+    [0; 65537]
 }
 
 // The numbers of a sheet, laid out for ROWS rows. All refusals are found before a lent word is written.
@@ -42,7 +51,7 @@ pub fn read(
     ensures { λ r. ⌜ Reads (now (sheet .entry)) (now (selectors .entry)) (now (labels .entry)) (now (witness .entry)) (now (publics .entry)) (now (challenges .entry)) r (now (selectors .exit)) (now (labels .exit)) (now (witness .exit)) (now (publics .exit)) (now (challenges .exit)) ⌝ }
 {
     let k = 6160;
-    let mut table = blank();
+    let mut table = table_room();
     let long = [
         sheet.len(),
         selectors.len(),
@@ -51,7 +60,8 @@ pub fn read(
         publics.len(),
         challenges.len(),
     ];
-    let found = reasons::decide(sheet, &mut table[..k], &long);
+    let due = reasons::lengths_due(sheet.len());
+    let found = reasons::decide(sheet, &mut table[..k], &long, &due);
     let answer = found.answer;
     let number = answer.number;
     if number == 0 {

@@ -1,15 +1,17 @@
 // Why a sheet is turned down, if it is. Only the table is written, which is the reader's own.
 ghost use mathlib.Core.Path.{_≡_};
+ghost use mathlib.Core.List.{_∷_, []};
+ghost use Prim.Native.Nat.{_≤_};
 ghost use lib.ListN.{length};
-ghost use Rattle.field.specs.Reasons.{answerOf};
+ghost use Rattle.field.specs.Reasons.{answerOf, badLengths};
 ghost use Rattle.sheet.specs.Sheet.{linesDue, sheetDue, behindReasons};
 ghost use Rattle.sheet.specs.Table.{Held, Begins};
 ghost use Rattle.sheet.specs.Deciding.{Decides};
 use super::SheetAnswer;
 use field::Answer;
 
-// The lengths due: of the sheet, which has whatever length it has, and of the five lent buffers.
-fn lengths_due(bytes: usize) -> [usize; 6]
+// The lengths due of `read`: of the sheet, which has whatever length it has, and of the five lent buffers.
+pub fn lengths_due(bytes: usize) -> [usize; 6]
     ensures { λ r. ⌜ r ≡ sheetDue bytes ⌝ }
 {
     let rows = super::ROWS as usize;
@@ -23,7 +25,7 @@ fn lengths_due(bytes: usize) -> [usize; 6]
     ]
 }
 
-// The reasons behind those of the first line, for the lengths of the sheet and of the five lent buffers. The table is filled.
+// The reasons behind those of the first line, `long` being the lengths of the call's buffers, and `due` those due. The table is filled.
 fn decide_behind(
     s: &[u8],
     p: u32,
@@ -32,9 +34,10 @@ fn decide_behind(
     start: usize,
     table: &mut [u32],
     long: &[usize],
+    due: &[usize],
 ) -> Answer
-    requires { ⌜ Begins (now s) n l start (now table) × (length (now long) ≡ 6) ⌝ }
-    ensures { λ r. ⌜ r ≡ answerOf (behindReasons (now (s .entry)) p n l (now (long .entry))) ⌝ }
+    requires { ⌜ Begins (now s) n l start (now table) × (length (now long) ≡ length (now due)) × (length (now due) ≤ 16) ⌝ }
+    ensures { λ r. ⌜ r ≡ answerOf (behindReasons (now (s .entry)) p n l (badLengths (now (long .entry)) (now (due .entry)) ∷ [])) ⌝ }
     ensures { λ r. ⌜ (r .number ≡ 0 → Held (now (s .entry)) n l (linesDue n l) (now (table .exit))) ⌝ }
 {
     let first = super::lines::decide_lines(s, n, l, start, table);
@@ -42,8 +45,7 @@ fn decide_behind(
     if number != 0 {
         return first;
     }
-    let due = lengths_due(s.len());
-    let second = field::decide_lengths(long, &due);
+    let second = field::decide_lengths(long, due);
     let number = second.number;
     if number != 0 {
         return second;
@@ -63,10 +65,10 @@ fn turned_down(answer: Answer) -> SheetAnswer
     }
 }
 
-// All reasons in order, for the lengths of the sheet and of the five lent buffers. The table is filled where none applies.
-pub fn decide(s: &[u8], table: &mut [u32], long: &[usize]) -> SheetAnswer
-    requires { ⌜ (length (now table) ≡ 6160) × (length (now long) ≡ 6) ⌝ }
-    ensures { λ r. ⌜ Decides (now (s .entry)) (now (long .entry)) r (now (table .exit)) ⌝ }
+// All reasons of a call that reads a sheet, in order, `long` being the lengths of the call's buffers, and `due` those due. The table is filled where none applies.
+pub fn decide(s: &[u8], table: &mut [u32], long: &[usize], due: &[usize]) -> SheetAnswer
+    requires { ⌜ (length (now table) ≡ 6160) × (length (now long) ≡ length (now due)) × (length (now due) ≤ 16) ⌝ }
+    ensures { λ r. ⌜ Decides (now (s .entry)) (badLengths (now (long .entry)) (now (due .entry)) ∷ []) r (now (table .exit)) ⌝ }
 {
     let first = super::first::decide_first(s);
     let answer = first.answer;
@@ -76,7 +78,7 @@ pub fn decide(s: &[u8], table: &mut [u32], long: &[usize]) -> SheetAnswer
     }
     let n = first.n as usize;
     let l = first.l as usize;
-    let answer = decide_behind(s, first.p, n, l, first.next, table, long);
+    let answer = decide_behind(s, first.p, n, l, first.next, table, long, due);
     let number = answer.number;
     if number != 0 {
         return turned_down(answer);

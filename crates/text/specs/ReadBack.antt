@@ -11,7 +11,7 @@
 -- Assumes nothing.
 use mathlib.Core.Path.{_≡_, refl, sym, ap, ap₂, subst, subst⁻¹, _∙_}
 use mathlib.Core.Bool.{Bool, true, false, not, cond, _&&_, _||_, false≢true}
-use mathlib.Core.List.{List, [], _∷_, _++_, append-assoc}
+use mathlib.Core.List.{List, [], _∷_, _++_, append-assoc, append-nil}
 use Prim.Native.Nat.{ℕ, zero, suc, _+_, _-_, _≤_, _<_}
 use native.Mathlib.Decide.{decLt, ℕ-discrete}
 use native.Mathlib.Omega.{arith}
@@ -22,7 +22,7 @@ use Rattle.algebra.specs.Modular.{first}
 use Rattle.algebra.specs.Lists.{All}
 use Rattle.algebra.specs.Tables.{all-getD}
 use Rattle.algebra.specs.Search.{First, first-is, first-some, first-none}
-use Rattle.text.specs.Text.{isDigit, digitsEnd, valueOf, isNumberAt, numberAt, fieldAt, closing, isFieldAt, isLineAt, decimal, fieldsOf, lineOf}
+use Rattle.text.specs.Text.{isDigit, digitsEnd, valueOf, isNumberAt, numberAt, fieldAt, closing, isFieldAt, isLineAt, decimal, fieldsText, fieldsOf, lineOf}
 use Rattle.text.specs.Decimal.{Written, written-in, written-front, written-back, decimal-small, decimal-digits, decimal-some, decimal-lead, decimal-value, value-written}
 
 -- A NUMBER
@@ -127,30 +127,45 @@ pub record ReadBack (s : List ℕ) (at : ℕ) (vs : List ℕ) : Type 0 where
   pub numbers : (j : ℕ) → j < length vs → numberAt s (fieldAt s at j) ≡ getD vs j 0
 
 -- the last number
-back-last : (s : List ℕ) (at v : ℕ) → v < 4294967296 → Written s at (lineOf (v ∷ [])) → at + length (lineOf (v ∷ [])) ≤ length s → ReadBack s at (v ∷ [])
-unfolding fieldAt fieldsOf isDigit
-back-last s at v small w within = record {
-  ends = ap suc (number-ends s at v 10 [] small refl w in-text) ∙ omega (arith, length-append (decimal v) (10 ∷ []));
-  fields = λ j h. here j h;
-  numbers = λ j h. number j h;
-}
-  where
-    in-text : at + length (decimal v) < length s
-    in-text = omega (arith, length-append (decimal v) (10 ∷ []))
+module _ (s : List ℕ) (at v : ℕ) (small : v < 4294967296) (w : Written s at (lineOf (v ∷ []))) (within : at + length (lineOf (v ∷ [])) ≤ length s) where
+  last-bytes : lineOf (v ∷ []) ≡ decimal v ++ (10 ∷ [])
+  unfolding fieldsOf fieldsText
+  last-bytes = ap (λ (d : List ℕ). d ++ (10 ∷ [])) (append-nil (decimal v))
 
-    here : (j : ℕ) → j < 1 → isFieldAt s at 1 j ≡ true
-    here zero h = is-first-field s at v 10 [] small refl w in-text 1 refl
-    here (suc j) h = absurd (omega arith)
+  last-long : length (lineOf (v ∷ [])) ≡ length (decimal v) + 1
+  last-long = ap length last-bytes ∙ length-append (decimal v) (10 ∷ [])
 
-    number : (j : ℕ) → j < 1 → numberAt s (fieldAt s at j) ≡ getD (v ∷ []) j 0
-    number zero h = number-back s at v 10 [] small refl w in-text
-    number (suc j) h = absurd (omega arith)
+  last-stands : Written s at (decimal v ++ (10 ∷ []))
+  last-stands = subst (Written s at) last-bytes w
+
+  last-in-text : at + length (decimal v) < length s
+  last-in-text = omega (arith, last-long)
+
+  newline : isDigit 10 ≡ false
+  unfolding isDigit
+  newline = refl
+
+  back-last : ReadBack s at (v ∷ [])
+  unfolding fieldAt
+  back-last = record {
+    ends = ap suc (number-ends s at v 10 [] small newline last-stands last-in-text) ∙ omega (arith, last-long);
+    fields = λ j h. here j h;
+    numbers = λ j h. number j h;
+  }
+    where
+      here : (j : ℕ) → j < 1 → isFieldAt s at 1 j ≡ true
+      here zero h = is-first-field s at v 10 [] small newline last-stands last-in-text 1 refl
+      here (suc j) h = absurd (omega arith)
+
+      number : (j : ℕ) → j < 1 → numberAt s (fieldAt s at j) ≡ getD (v ∷ []) j 0
+      number zero h = number-back s at v 10 [] small newline last-stands last-in-text
+      number (suc j) h = absurd (omega arith)
 
 -- a number with others behind it
 module _ (s : List ℕ) (at v u : ℕ) (us : List ℕ) (small : v < 4294967296) (w : Written s at (lineOf (v ∷ u ∷ us)))
     (within : at + length (lineOf (v ∷ u ∷ us)) ≤ length s) where
   bytes : lineOf (v ∷ u ∷ us) ≡ decimal v ++ (44 ∷ lineOf (u ∷ us))
-  unfolding fieldsOf
+  unfolding fieldsOf fieldsText
   bytes = append-assoc (decimal v) (44 ∷ fieldsOf (u ∷ us)) (10 ∷ [])
 
   long : length (lineOf (v ∷ u ∷ us)) ≡ length (decimal v) + suc (length (lineOf (u ∷ us)))

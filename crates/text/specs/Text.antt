@@ -13,7 +13,11 @@
 -- WRITING
 -- decimalOf most v   the digits of v, at most `most` of them
 -- decimal v          v in decimal, without leading zeros, for v below 2^32
--- fieldsOf, lineOf vs   the numbers vs with commas between them; the same with byte 10 behind
+-- fieldsText vs      a comma and the number in decimal, for each of vs
+-- lineText word vs   a line that begins with a word: the word, its fields, and byte 10
+-- fieldsOf, lineOf vs   the numbers vs with commas between them; a line of them, with byte 10 behind
+-- refusedWord        the word `refused`
+-- refusedText number detail   the line of a refusal
 --
 -- Assumes nothing.
 use mathlib.Core.Bool.{Bool, not, cond, _&&_, _||_}
@@ -66,10 +70,22 @@ decimalOf (suc most) v = cond (ltb v 10) ((48 + v) ∷ []) (decimalOf most (v / 
 abbrev pub decimal : ℕ → List ℕ
 decimal v = decimalOf 10 v
 
+unfoldable pub fieldsText : List ℕ → List ℕ
+fieldsText [] = []
+fieldsText (v ∷ vs) = 44 ∷ (decimal v ++ fieldsText vs)
+
+abbrev pub lineText : List ℕ → List ℕ → List ℕ
+lineText word vs = word ++ (fieldsText vs ++ (10 ∷ []))
+
 unfoldable pub fieldsOf : List ℕ → List ℕ
 fieldsOf [] = []
-fieldsOf (v ∷ []) = decimal v
-fieldsOf (v ∷ u ∷ vs) = decimal v ++ (44 ∷ fieldsOf (u ∷ vs))
+fieldsOf (v ∷ vs) = decimal v ++ fieldsText vs
 
 abbrev pub lineOf : List ℕ → List ℕ
 lineOf vs = fieldsOf vs ++ (10 ∷ [])
+
+abbrev pub refusedWord : List ℕ
+refusedWord = 114 ∷ 101 ∷ 102 ∷ 117 ∷ 115 ∷ 101 ∷ 100 ∷ []
+
+abbrev pub refusedText : ℕ → ℕ → List ℕ
+refusedText number detail = lineText refusedWord (number ∷ detail ∷ [])

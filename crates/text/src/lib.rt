@@ -1,4 +1,4 @@
-// Numbers and lines in a text of bytes: reading.
+// Numbers and lines in a text of bytes: reading them here, writing them in `writing`.
 //
 // The functions are for the layers above, which have checked the text's length.
 ghost use mathlib.Core.Path.{_≡_};
@@ -8,6 +8,14 @@ ghost use lib.Dec.{eqb, ltb};
 ghost use lib.ListN.{length, getD};
 ghost use Rattle.algebra.specs.Lists.{tab};
 ghost use Rattle.text.specs.Text.{isDigit, digitsEnd, valueOf, isNumberAt, numberAt, fieldAt, closing, isLineAt};
+
+mod writing;
+
+pub use writing::clear;
+pub use writing::put_line;
+pub use writing::put_numbers;
+pub use writing::put_refused;
+pub use writing::put_word;
 
 // What stands at a place: whether it is a number, its value where it is one, and where its digits end.
 pub struct Parsed {

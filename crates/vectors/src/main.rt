@@ -48,7 +48,7 @@ fn say(i: usize, right: bool) {
 
 // The sheet that argument i names, against the text that the next one names.
 fn judge(i: usize, next: usize) {
-    let mut sheet = archive::sheet_room();
+    let mut sheet = sheet::sheet_room();
     let mut due = archive::text_room();
     let mut text = archive::text_room();
     let n = load(i, &mut sheet);

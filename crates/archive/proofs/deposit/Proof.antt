@@ -4,8 +4,8 @@ use native.Mathlib.Omega.{arith}
 use lib.ListN.{length}
 use borrow.Author.Needs.{needs}
 use Rattle.archive.specs.Printed.{textLength}
-use Rattle.archive.proofs.Rest.{rest-cleared}
-use Rattle.archive.specs.Sheets.{puts-fits, refused-deposit, text-long, made-deposit}
+use Rattle.text.specs.Puts.{puts-fits, puts-cleared}
+use Rattle.archive.specs.Sheets.{refused-deposit, text-long, made-deposit}
 use Rattle.archive.proofs.deposit.Statement.{statement}
 use Rattle.archive.proofs.deposit.Tie as tie
 
@@ -49,8 +49,8 @@ returns-2 : tie.Need-returns-2
 returns-2 c =
     let d = c .before .before .before .before .before .before .before .before .before in
     let t = c .before .before .before .before .before .before .print-sheet in
-    made-deposit (start d .args .sheet .now) (start d .args .text .now) _ (t .result) (t .last .1 .0) _ (d .decide-lengths .ensures) (c .before .before .before .before .before .before .before .before .if1 .left) (t .kept .1 .0) (t .ensures)
-    (rest-cleared (t .result) (t .last .1 .0) (c .before .before .clear .last .0) (c .before .before .clear .ensures))
+    made-deposit (start d .args .sheet .now) (start d .args .text .now) _ (t .result) (t .last .1 .0) _ (d .decide-lengths .ensures) (c .before .before .before .before .before .before .before .before .if1 .left) (t .kept .1 .0) (omega (arith, t .ensures .place))
+    (puts-cleared _ _ (t .result) (t .last .1 .0) (c .before .before .clear .last .0) (t .ensures) (c .before .before .clear .ensures))
 
 pub deposit-spec : {M : Type 1} → statement M
 deposit-spec =

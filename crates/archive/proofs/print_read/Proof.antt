@@ -8,7 +8,7 @@ use lib.Seq.{length-take-le}
 use borrow.Author.Needs.{needs}
 use Rattle.circuit.specs.Buffers.{selectorsLength, labelsLength, witnessLength}
 use Rattle.archive.specs.Printed.{workText}
-use Rattle.archive.specs.Puts.{Puts}
+use Rattle.text.specs.Puts.{Puts}
 use Rattle.archive.proofs.print_read.Statement.{statement}
 use Rattle.archive.proofs.print_read.Tie as tie
 

@@ -7,8 +7,9 @@ use native.Mathlib.Omega.{arith}
 use lib.ListN.{take}
 use borrow.Author.Needs.{needs}
 use Rattle.circuit.specs.Buffers.{selectorsLength, labelsLength, witnessLength}
-use Rattle.archive.specs.Printed.{refusedText, workText}
-use Rattle.archive.specs.Puts.{Puts}
+use Rattle.text.specs.Text.{refusedText}
+use Rattle.archive.specs.Printed.{workText}
+use Rattle.text.specs.Puts.{Puts}
 use Rattle.archive.specs.Deposit.{depositText}
 use Rattle.archive.specs.Work.{Workable}
 use Rattle.archive.specs.Sheets.{Arrays, rows-few, publics-few, sheet-workable, sheet-text, unread-text}

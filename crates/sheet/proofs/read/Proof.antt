@@ -1,41 +1,60 @@
 -- `sheet::read` meets its contract: the reasons are decided, and only then the buffers are written. Assumes nothing.
-use mathlib.Core.Path.{_≡_, refl, sym, ap, _∙_}
-use mathlib.Core.List.{_++_}
+use mathlib.Core.Path.{_≡_, sym, ap, subst, _∙_}
+use mathlib.Core.List.{List, [], _∷_, _++_}
+use Prim.Native.Nat.{ℕ}
 use native.Mathlib.Omega.{arith}
 use lib.ListN.{length, take, drop, length-append}
 use lib.Seq.{length-take-le, take-at}
 use borrow.Author.Needs.{needs}
+use Rattle.field.specs.Reasons.{badLengths}
+use Rattle.sheet.specs.Sheet.{sheetDue}
+use Rattle.sheet.specs.Deciding.{Decides}
 use Rattle.sheet.proofs.Reading.{ready, buffers, read-accepted, read-refused}
 use Rattle.sheet.proofs.read.Statement.{statement}
 use Rattle.sheet.proofs.read.Tie as tie
 
 -- where the call begins; the table has room, still has when it is filled, and is then what deciding left
 abbrev start : tie.After-decide → tie.Start
-start c = c .before .before .before .before .before .before .before .before .before .before
+start c = c .before .before .before .before .before .before .before .before .before .before .before .before
 
-room : (c : tie.After-blank) → length (take 6160 (c .blank .result)) ≡ 6160
-room c = length-take-le 6160 (c .blank .result) (omega (arith, c .blank .ensures))
+room : (c : tie.After-table-room) → length (take 6160 (c .table-room .result)) ≡ 6160
+room c = length-take-le 6160 (c .table-room .result) (omega (arith, c .table-room .ensures))
 
 filled : (c : tie.After-decide) → length (c .decide .last .1 .0) ≡ 6160
-filled c = c .decide .kept .1 .0 ∙ room (c .before .before .before)
+filled c = c .decide .kept .1 .0 ∙ room (c .before .before .before .before .before)
 
-front : (c : tie.After-decide) → take 6160 (c .decide .last .1 .0 ++ drop 6160 (c .before .before .before .blank .result)) ≡ c .decide .last .1 .0
-front c = take-at (c .decide .last .1 .0) (drop 6160 (c .before .before .before .blank .result)) 6160 (filled c)
+front : (c : tie.After-decide) → take 6160 (c .decide .last .1 .0 ++ drop 6160 (c .before .before .before .before .before .table-room .result)) ≡ c .decide .last .1 .0
+front c = take-at (c .decide .last .1 .0) (drop 6160 (c .before .before .before .before .before .table-room .result)) 6160 (filled c)
 
-blank-requires : tie.Need-blank-requires
-blank-requires c κs = search needs
+-- the lengths due are those of the definition
+decided : (c : tie.After-decide) → Decides (start c .args .sheet .now) (badLengths (length (start c .args .sheet .now) ∷ length (start c .args .selectors .now) ∷ length (start c .args .labels .now) ∷ length (start c .args .witness .now) ∷ length (start c .args .publics .now) ∷ length (start c .args .challenges .now) ∷ []) (sheetDue (length (start c .args .sheet .now))) ∷ []) (c .decide .result) (c .decide .last .1 .0)
+decided c =
+    subst (λ (due : List ℕ). Decides (start c .args .sheet .now) (badLengths (length (start c .args .sheet .now) ∷ length (start c .args .selectors .now) ∷ length (start c .args .labels .now) ∷ length (start c .args .witness .now) ∷ length (start c .args .publics .now) ∷ length (start c .args .challenges .now) ∷ []) due ∷ []) (c .decide .result) (c .decide .last .1 .0))
+    (c .before .before .before .before .lengths-due .ensures)
+    (c .decide .ensures)
+
+table-room-requires : tie.Need-table-room-requires
+table-room-requires c κs = search needs
+
+lengths-due-requires : tie.Need-lengths-due-requires
+lengths-due-requires c κs = search needs
 
 array-borrow-prefix-table : tie.Need-array-borrow-prefix-table
 array-borrow-prefix-table c = search needs
 
 slice-aggregate-decide : tie.Need-slice-aggregate-decide
-slice-aggregate-decide c = sym (room (c .before))
+slice-aggregate-decide c = sym (room (c .before .before))
 
 slice-aggregate-decide-2 : tie.Need-slice-aggregate-decide-2
 slice-aggregate-decide-2 c = search needs
 
+slice-aggregate-decide-3 : tie.Need-slice-aggregate-decide-3
+slice-aggregate-decide-3 c = search needs
+
 decide-requires : tie.Need-decide-requires
-decide-requires c κs = (room (c .before .before), refl)
+decide-requires c κs =
+    let due = ap length (c .before .before .before .lengths-due .ensures) in
+    (room (c .before .before .before .before), sym due, omega (arith, due))
 
 cast-n : tie.Need-cast-n
 cast-n c = search needs
@@ -58,8 +77,8 @@ lay-out-requires c κs =
     let d = c .before .before .before .before .before .before .before .before .before .before .before in
     let a = start d .args in
     let zero = c .before .before .before .before .before .before .before .before .if1 .taken in (
-      ready (a .sheet .now) (a .selectors .now) (a .labels .now) (a .witness .now) (a .publics .now) (a .challenges .now) _ _ (d .decide .ensures) zero (filled d) _ (front d),
-      buffers (a .sheet .now) (a .selectors .now) (a .labels .now) (a .witness .now) (a .publics .now) (a .challenges .now) _ _ (d .decide .ensures) zero,
+      ready (a .sheet .now) (a .selectors .now) (a .labels .now) (a .witness .now) (a .publics .now) (a .challenges .now) _ _ (decided d) zero (filled d) _ (front d),
+      buffers (a .sheet .now) (a .selectors .now) (a .labels .now) (a .witness .now) (a .publics .now) (a .challenges .now) _ _ (decided d) zero,
     )
 
 same-length : tie.Need-same-length
@@ -81,22 +100,24 @@ returns : tie.Need-returns
 returns c =
     let d = c .before .before .before .before .before .before .before .before .before .before .before .before .before .before .before .before .before .before .before .before .before .before in
     let a = start d .args in
-    read-accepted (a .sheet .now) (a .selectors .now) (a .labels .now) (a .witness .now) (a .publics .now) (a .challenges .now) _ _ (d .decide .ensures) (c .before .before .before .before .before .before .before .before .before .before .before .before .before .before .before .before .before .before .before .if1 .taken) (filled d) _ (front d) _ _ _ _ _ (c .before .before .before .before .before .before .before .before .before .before .lay-out .ensures)
+    read-accepted (a .sheet .now) (a .selectors .now) (a .labels .now) (a .witness .now) (a .publics .now) (a .challenges .now) _ _ (decided d) (c .before .before .before .before .before .before .before .before .before .before .before .before .before .before .before .before .before .before .before .if1 .taken) (filled d) _ (front d) _ _ _ _ _ (c .before .before .before .before .before .before .before .before .before .before .lay-out .ensures)
 
 returns-2 : tie.Need-returns-2
 returns-2 c =
     let d = c .before .before .before in
     let a = start d .args in
-    read-refused (a .sheet .now) (a .selectors .now) (a .labels .now) (a .witness .now) (a .publics .now) (a .challenges .now) _ _ (d .decide .ensures) (c .if1 .left)
+    read-refused (a .sheet .now) (a .selectors .now) (a .labels .now) (a .witness .now) (a .publics .now) (a .challenges .now) _ _ (decided d) (c .if1 .left)
 
 pub read-spec : {M : Type 1} → statement M
 read-spec =
     tie.close
     (tie.spec
-    blank-requires
+    table-room-requires
+    lengths-due-requires
     array-borrow-prefix-table
     slice-aggregate-decide
     slice-aggregate-decide-2
+    slice-aggregate-decide-3
     decide-requires
     cast-n
     cast-l

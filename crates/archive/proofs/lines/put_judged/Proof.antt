@@ -1,6 +1,6 @@
 -- `archive::lines::put_judged` meets its contract: nothing, or the line of the verdict. Assumes nothing.
 use borrow.Author.Needs.{needs}
-use Rattle.archive.specs.Puts.{puts-none}
+use Rattle.text.specs.Puts.{puts-none}
 use Rattle.archive.proofs.lines.put_judged.Statement.{statement}
 use Rattle.archive.proofs.lines.put_judged.Tie as tie
 

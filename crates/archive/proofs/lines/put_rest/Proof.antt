@@ -2,8 +2,7 @@
 use mathlib.Core.List.{[], _∷_}
 use native.Mathlib.Omega.{arith}
 use borrow.Author.Needs.{needs}
-use Rattle.archive.specs.Puts.{puts-both}
-use Rattle.archive.specs.Lines.{length-line}
+use Rattle.text.specs.Puts.{puts-both, length-line}
 use Rattle.archive.proofs.lines.put_rest.Statement.{statement}
 use Rattle.archive.proofs.lines.put_rest.Tie as tie
 

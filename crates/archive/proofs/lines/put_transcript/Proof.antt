@@ -6,7 +6,7 @@ use native.Mathlib.Omega.{arith}
 use lib.ListN.{length, length-drop}
 use borrow.Author.Needs.{needs}
 use Rattle.circuit.specs.Buffers.{tStart}
-use Rattle.archive.specs.Puts.{Puts, puts-both}
+use Rattle.text.specs.Puts.{Puts, puts-both}
 use Rattle.archive.specs.Lines.{length-wires}
 use Rattle.archive.proofs.lines.put_transcript.Statement.{statement}
 use Rattle.archive.proofs.lines.put_transcript.Tie as tie

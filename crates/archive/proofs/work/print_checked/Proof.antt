@@ -4,7 +4,7 @@ use native.Mathlib.Omega.{arith}
 use borrow.Author.Needs.{needs}
 use Rattle.pointcheck.specs.declared.Judged.{Judged}
 use Rattle.archive.specs.Printed.{judgedText}
-use Rattle.archive.specs.Puts.{Puts, puts-both}
+use Rattle.text.specs.Puts.{Puts, puts-both}
 use Rattle.archive.specs.Lines.{transcript-fits}
 use Rattle.archive.specs.Work.{laid-lines}
 use Rattle.archive.proofs.work.print_checked.Statement.{statement}

@@ -10,7 +10,7 @@ use borrow.Author.Needs.{needs}
 use Rattle.algebra.specs.Ends.{front-fits, front-is}
 use Rattle.prover.specs.Promises.{provedFrom}
 use Rattle.archive.specs.Printed.{workAnswer}
-use Rattle.archive.specs.Puts.{Puts}
+use Rattle.text.specs.Puts.{Puts}
 use Rattle.archive.specs.Work.{laid-of, checkable-of, proved-text, refused-text}
 use Rattle.archive.proofs.work.print_work.Statement.{statement}
 use Rattle.archive.proofs.work.print_work.Tie as tie

@@ -12,8 +12,8 @@ use Rattle.algebra.specs.Modular.{first}
 use Rattle.algebra.specs.Search.{first-stop, first-skip, first-end}
 use Rattle.sheet.specs.Sheet.{lineAt, linesDue, badLine}
 use Rattle.sheet.specs.Table.{Held}
-use Rattle.sheet.specs.ReadBack.{some-due}
-use Rattle.sheet.proofs.LineLaws.{due-most, isBad, bad-begins, line-is, held-none, held-more, next-start, part-long}
+use Rattle.sheet.specs.Due.{some-due, due-most}
+use Rattle.sheet.proofs.LineLaws.{isBad, bad-begins, line-is, held-none, held-more, next-start, part-long}
 use Rattle.sheet.proofs.lines.read_lines.Statement.{statement}
 use Rattle.sheet.proofs.lines.read_lines.Tie as tie
 

@@ -13,7 +13,7 @@ use Rattle.circuit.specs.Reasons.{badLabel, badPublicRow}
 use Rattle.sheet.specs.Table.{selectorsIn, labelsIn}
 use borrow.Author.Needs.{needs}
 use Rattle.sheet.proofs.BlockLaws.{labels-fit}
-use Rattle.sheet.proofs.TableLaws.{unbound-table}
+use Rattle.sheet.specs.TableLaws.{unbound-table}
 use Rattle.sheet.proofs.numbers.decide_circuit.Statement.{statement}
 use Rattle.sheet.proofs.numbers.decide_circuit.Tie as tie
 

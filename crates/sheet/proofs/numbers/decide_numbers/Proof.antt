@@ -9,7 +9,7 @@ use Rattle.field.specs.ReasonLaws.{refused-first, refused-later}
 use Rattle.sheet.specs.Table.{tableElements}
 use Rattle.sheet.specs.Deciding.{tableCircuit}
 use borrow.Author.Needs.{needs}
-use Rattle.sheet.proofs.TableLaws.{elements-long}
+use Rattle.sheet.specs.TableLaws.{elements-long}
 use Rattle.sheet.proofs.numbers.decide_numbers.Statement.{statement}
 use Rattle.sheet.proofs.numbers.decide_numbers.Tie as tie
 

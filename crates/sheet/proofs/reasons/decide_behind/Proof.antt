@@ -1,38 +1,31 @@
 -- `sheet::reasons::decide_behind` meets its contract: the reason of the lines, that of the lengths, those of the numbers. Assumes nothing.
-use mathlib.Core.Path.{_≡_, ap, _∙_}
+use mathlib.Core.Path.{_∙_}
 use mathlib.Core.List.{List, [], _∷_, _++_}
-use Prim.Native.Nat.{ℕ}
 use native.Mathlib.Omega.{arith}
-use lib.ListN.{length}
-use Rattle.field.specs.Reasons.{Reason, answerOf, badLengths}
+use Rattle.field.specs.Reasons.{Reason, badLengths}
 use Rattle.field.specs.ReasonLaws.{refused-first, refused-later}
-use Rattle.sheet.specs.Sheet.{lineReasons, sheetDue, sheetNumbers}
+use Rattle.sheet.specs.Sheet.{lineReasons, sheetNumbers}
 use Rattle.sheet.specs.Table.{Full}
 use borrow.Author.Needs.{needs}
 use Rattle.sheet.proofs.Decided.{table-reasons}
 use Rattle.sheet.proofs.reasons.decide_behind.Statement.{statement}
 use Rattle.sheet.proofs.reasons.decide_behind.Tie as tie
 
--- the three parts, that the second is decided, and the table in which the lines stand
+-- the three parts, and the table in which the lines stand
 abbrev lines : tie.Start → List Reason
 lines s = lineReasons (s .args .s .now) (s .args .n) (s .args .l)
 
 abbrev lengths : tie.Start → List Reason
-lengths s = badLengths (s .args .long .now) (sheetDue (length (s .args .s .now))) ∷ []
+lengths s = badLengths (s .args .long .now) (s .args .due .now) ∷ []
 
 abbrev numbers : tie.Start → List Reason
 numbers s = sheetNumbers (s .args .s .now) (s .args .p) (s .args .n) (s .args .l)
 
 abbrev start : tie.After-decide-lines → tie.Start
-start c = c .before .before .before .before .before
+start c = c .before .before .before .before .before .before
 
 abbrev read : tie.After-decide-lengths → tie.After-decide-lines
-read c = c .before .before .before .before .before .before
-
-decided : (c : tie.After-decide-lengths) → c .decide-lengths .result ≡ answerOf (lengths (start (read c)))
-decided c =
-    c .decide-lengths .ensures
-    ∙ ap (λ (due : List ℕ). answerOf (badLengths (start (read c) .args .long .now) due ∷ [])) (c .before .before .lengths-due .ensures)
+read c = c .before .before .before .before
 
 filled : (c : tie.After-decide-lines) → Full (start c .args .n) (start c .args .l) (c .decide-lines .last .1 .1 .1 .1 .0)
 filled c =
@@ -40,7 +33,7 @@ filled c =
     record { some = full .some; few = full .few; publics = full .publics; long = c .decide-lines .kept .1 .1 .1 .1 .0 ∙ full .long }
 
 decide-lines-requires : tie.Need-decide-lines-requires
-decide-lines-requires c κs = c .before .before .before .before .pre .0
+decide-lines-requires c κs = c .before .before .before .before .before .pre .0
 
 same-length : tie.Need-same-length
 same-length c = search needs
@@ -50,12 +43,6 @@ returns c =
     let d = c .before .before .before in
     let s = start d in
     (refused-first (lines s) (lengths s ++ numbers s) (omega arith, tt) _ (d .decide-lines .ensures .0) (c .if1 .taken), λ u. absurd (c .if1 .taken u))
-
-lengths-due-requires : tie.Need-lengths-due-requires
-lengths-due-requires c κs = search needs
-
-slice-aggregate-decide-lengths : tie.Need-slice-aggregate-decide-lengths
-slice-aggregate-decide-lengths c = search needs
 
 decide-lengths-requires : tie.Need-decide-lengths-requires
 decide-lengths-requires c κs = search needs
@@ -67,8 +54,8 @@ returns-2 : tie.Need-returns-2
 returns-2 c =
     let d = read (c .before) in
     let s = start d in (
-      refused-later (lines s) (lengths s ++ numbers s) (omega arith, tt) _ _ (d .decide-lines .ensures .0) (c .before .before .before .before .if1 .left)
-          (refused-first (lengths s) (numbers s) (omega arith, tt) _ (decided (c .before)) (c .if2 .taken)),
+      refused-later (lines s) (lengths s ++ numbers s) (omega arith, tt) _ _ (d .decide-lines .ensures .0) (c .before .before .if1 .left)
+          (refused-first (lengths s) (numbers s) (omega arith, tt) _ (c .before .decide-lengths .ensures) (c .if2 .taken)),
       λ u. absurd (c .if2 .taken u),
     )
 
@@ -82,10 +69,10 @@ returns-3 : tie.Need-returns-3
 returns-3 c =
     let d = read (c .before .before .before) in
     let s = start d in
-    let zero = c .before .before .before .before .before .before .if1 .left in
+    let zero = c .before .before .before .before .if1 .left in
     let held = d .decide-lines .ensures .1 zero in (
       refused-later (lines s) (lengths s ++ numbers s) (omega arith, tt) _ _ (d .decide-lines .ensures .0) zero
-          (refused-later (lengths s) (numbers s) (omega arith, tt) _ _ (decided (c .before .before .before)) (c .before .before .if2 .left)
+          (refused-later (lengths s) (numbers s) (omega arith, tt) _ _ (c .before .before .before .decide-lengths .ensures) (c .before .before .if2 .left)
           (c .decide-numbers .ensures ∙ table-reasons _ _ _ _ _ (filled d) held)),
       λ u. held,
     )
@@ -97,8 +84,6 @@ decide-behind-spec =
     decide-lines-requires
     same-length
     returns
-    lengths-due-requires
-    slice-aggregate-decide-lengths
     decide-lengths-requires
     same-length-2
     returns-2

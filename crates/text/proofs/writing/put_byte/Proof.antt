@@ -1,10 +1,10 @@
--- `archive::print::put_byte` meets its contract. Assumes nothing.
+-- `text::writing::put_byte` meets its contract. Assumes nothing.
 use borrow.Author.Needs.{needs}
-use Rattle.archive.specs.Puts.{puts-byte}
-use Rattle.archive.proofs.print.put_byte.Statement.{statement}
-use Rattle.archive.proofs.print.put_byte.Tie as tie
-use Rattle.archive.proofs.print.put_byte.Reads as reads
-use Rattle.archive.proofs.print.put_byte.Lts as lts
+use Rattle.text.specs.Puts.{puts-byte}
+use Rattle.text.proofs.writing.put_byte.Statement.{statement}
+use Rattle.text.proofs.writing.put_byte.Tie as tie
+use Rattle.text.proofs.writing.put_byte.Reads as reads
+use Rattle.text.proofs.writing.put_byte.Lts as lts
 
 slice-write-out : tie.Need-slice-write-out
 slice-write-out c = search needs

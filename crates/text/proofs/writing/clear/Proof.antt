@@ -1,4 +1,4 @@
--- `archive::print::clear` meets its contract: after i turns the first i bytes are 0. Assumes nothing.
+-- `text::writing::clear` meets its contract: after i turns the first i bytes are 0. Assumes nothing.
 use mathlib.Core.Path.{_≡_, refl, _∙_}
 use mathlib.Core.List.{_++_}
 use Prim.Native.Nat.{_-_, _≤_}
@@ -7,8 +7,8 @@ use lib.ListN.{length, drop, length-set}
 use borrow.Author.Needs.{needs}
 use Rattle.algebra.specs.Lists.{tab}
 use Rattle.algebra.specs.Tables.{wrote-none, wrote-more, wrote-all, tab-const}
-use Rattle.archive.proofs.print.clear.Statement.{statement}
-use Rattle.archive.proofs.print.clear.Tie as tie
+use Rattle.text.proofs.writing.clear.Statement.{statement}
+use Rattle.text.proofs.writing.clear.Tie as tie
 
 abbrev Inv-loop : tie.InvT-loop
 Inv-loop out₀ i₀ out i = (i ≤ length out₀) × (out ≡ tab (λ k. 0) i ++ drop i out₀) × (length out ≡ length out₀)

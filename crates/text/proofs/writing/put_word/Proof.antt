@@ -1,13 +1,13 @@
--- `archive::print::put_word` meets its contract: after i turns the first i bytes are put. Assumes nothing.
+-- `text::writing::put_word` meets its contract: after i turns the first i bytes are put. Assumes nothing.
 use mathlib.Core.Path.{_≡_, ap, _∙_}
 use Prim.Native.Nat.{ℕ, _-_, _≤_}
 use native.Mathlib.Omega.{arith}
 use lib.ListN.{length, take}
 use lib.Seq.{take-length, length-take-le}
 use borrow.Author.Needs.{needs}
-use Rattle.archive.specs.Puts.{Puts, puts-none, word-turn}
-use Rattle.archive.proofs.print.put_word.Statement.{statement}
-use Rattle.archive.proofs.print.put_word.Tie as tie
+use Rattle.text.specs.Puts.{Puts, puts-none, word-turn}
+use Rattle.text.proofs.writing.put_word.Statement.{statement}
+use Rattle.text.proofs.writing.put_word.Tie as tie
 
 abbrev Inv-loop : tie.InvT-loop
 Inv-loop word out₀ at next₀ i₀ out next i =

@@ -1,18 +1,18 @@
--- `archive::print::put_digits` meets its contract: by `most`, the digits before the last one, and then that one. Assumes nothing.
+-- `text::writing::put_digits` meets its contract: by `most`, the digits before the last one, and then that one. Assumes nothing.
 use Prim.Native.Nat.{ℕ, _-_, _/_, _<_}
 use native.Mathlib.Nat.{mod-lt}
 use native.Mathlib.Omega.{arith}
 use borrow.Author.Needs.{needs}
 use Rattle.text.specs.Decimal.{decimal-few}
-use Rattle.archive.specs.Puts.{puts-none, puts-both, digits-none, digits-last, digits-more}
+use Rattle.text.specs.Puts.{puts-none, puts-both, digits-none, digits-last, digits-more}
 use borrow.Fn.Kinds.{In}
 use borrow.Fn.PlainCycle.{Measures, is, falls, and}
-use Rattle.archive.proofs.print.put_digits.Reads as put-digits
-use Rattle.archive.proofs.print.put_digits.Kinds as put-digits-kinds
-use Rattle.archive.proofs.print.+put_digits.Lts-put_digits as put-digits-lts
-use Rattle.archive.proofs.print.put_byte.Reads as put-byte-reads
-use Rattle.archive.proofs.print.+put_digits.{statement}
-use Rattle.archive.proofs.print.+put_digits.Tie.{close}
+use Rattle.text.proofs.writing.put_digits.Reads as put-digits
+use Rattle.text.proofs.writing.put_digits.Kinds as put-digits-kinds
+use Rattle.text.proofs.writing.+put_digits.Lts-put_digits as put-digits-lts
+use Rattle.text.proofs.writing.put_byte.Reads as put-byte-reads
+use Rattle.text.proofs.writing.+put_digits.{statement}
+use Rattle.text.proofs.writing.+put_digits.Tie.{close}
 
 ten : 0 < 10
 ten = omega arith

@@ -6,21 +6,27 @@
 -- word-turn                   a word, one byte more
 -- digits-none, digits-last, digits-more   the last digits of a number: none of them; one digit; those before the last one, and that one
 -- length-fields               fields have at most 11 bytes each
+-- length-line                 a line that begins with a word has the word, at most 11 bytes for each number, and byte 10
+-- length-numbers              a line of numbers has at most 11 bytes for each
+-- numbers-parts               a line of numbers: the first in decimal, the fields of the others, and byte 10
 -- fields-append, fields-more  the fields of two lists of numbers, and of one number more
 -- fields-none, fields-turn    no fields are put; one field more is
+-- puts-fits                   what is put is within the buffer
+-- puts-cleared                a text that is put at the buffer's start, and zeros for all that stands behind it
 --
 -- Assumes nothing.
-use mathlib.Core.Path.{_≡_, refl, sym, ap, _∙_}
+use mathlib.Core.Path.{_≡_, refl, sym, ap, ap₂, _∙_}
 use mathlib.Core.Logic.{_≢_}
 use mathlib.Core.List.{List, [], _∷_, _++_, append-assoc, append-nil}
 use Prim.Native.Nat.{ℕ, zero, suc, _+_, _*_, _-_, _/_, _%_, _≤_, _<_}
 use native.Mathlib.Numerals.{add-one}
 use native.Mathlib.Omega.{arith}
-use lib.ListN.{length, getD, take, set, length-append}
+use lib.ListN.{length, getD, take, drop, replicate, set, length-append, length-take, length-drop}
 use lib.Seq.{take-suc, take-suc-set}
-use Rattle.text.specs.Text.{decimalOf, decimal}
+use borrow.Rule.Slice.PartMut.{putMid}
+use Rattle.algebra.specs.Ends.{rest-put}
+use Rattle.text.specs.Text.{decimalOf, decimal, fieldsText, lineText, fieldsOf, lineOf}
 use Rattle.text.specs.Decimal.{decimal-small, decimal-more, decimal-few}
-use Rattle.archive.specs.Printed.{fieldsText}
 
 pub record Puts (at : ℕ) (bytes out : List ℕ) (r : ℕ) (out' : List ℕ) : Type 0 where
   pub place : r ≡ at + length bytes
@@ -61,6 +67,21 @@ unfolding fieldsText
 length-fields [] = omega arith
 length-fields (v ∷ vs) = omega (arith, length-append (decimal v) (fieldsText vs), decimal-few 10 v, length-fields vs)
 
+pub length-line : (word vs : List ℕ) → length (lineText word vs) ≤ length word + 11 * length vs + 1
+length-line word vs =
+    omega (arith, length-append word (fieldsText vs ++ (10 ∷ [])), length-append (fieldsText vs) (10 ∷ []), length-fields vs)
+
+pub length-numbers : (vs : List ℕ) → 0 < length vs → length (lineOf vs) ≤ 11 * length vs
+unfolding fieldsOf
+length-numbers [] h = absurd (omega arith)
+length-numbers (v ∷ vs) h =
+    omega (arith, length-append (decimal v ++ fieldsText vs) (10 ∷ []), length-append (decimal v) (fieldsText vs), decimal-few 10 v, length-fields vs)
+
+pub numbers-parts : (vs : List ℕ) → 0 < length vs → lineOf vs ≡ decimal (getD vs 0 0) ++ (fieldsText (drop 1 vs) ++ (10 ∷ []))
+unfolding fieldsOf
+numbers-parts [] h = absurd (omega arith)
+numbers-parts (v ∷ vs) h = append-assoc (decimal v) (fieldsText vs) (10 ∷ [])
+
 pub fields-append : (us vs : List ℕ) → fieldsText (us ++ vs) ≡ fieldsText us ++ fieldsText vs
 unfolding fieldsText
 fields-append [] vs = refl
@@ -80,3 +101,14 @@ fields-none at out = puts-none at out
 pub fields-turn : {at r s : ℕ} {out out' out'' : List ℕ} (vs : List ℕ) (i : ℕ) → i < length vs
     → Puts at (fieldsText (take i vs)) out r out' → Puts r (44 ∷ decimal (getD vs i 0)) out' s out'' → Puts at (fieldsText (take (i + 1) vs)) out s out''
 fields-turn vs i h P Q = rw (fields-more vs i h) (puts-both P Q)
+
+-- A TEXT AND ZEROS BEHIND IT
+
+pub puts-fits : {bytes out : List ℕ} (r : ℕ) (out' : List ℕ) → Puts 0 bytes out r out' → r ≤ length out'
+puts-fits r out' P = omega (arith, P .place, ap length (P .text), length-take r out')
+
+pub puts-cleared : (bytes out : List ℕ) (r : ℕ) (out' w : List ℕ) → Puts 0 bytes out r out' → w ≡ replicate (length (take (length out' - r) (drop r out'))) 0
+    → putMid r (length out' - r) out' w ≡ bytes ++ replicate (length out' - length bytes) 0
+puts-cleared bytes out r out' w P e =
+    let long : length (take (length out' - r) (drop r out')) ≡ length out' - length bytes = simp (length-take, length-drop) (omega (arith, P .place)) in
+    rest-put r out' w ∙ ap₂ (λ (a b : List ℕ). a ++ b) (P .text) (e ∙ ap (λ (k : ℕ). replicate k 0) long)

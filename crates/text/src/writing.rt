@@ -1,14 +1,13 @@
-// Text in bytes: each function puts a run of bytes at a place of a buffer, and answers where the next byte goes.
+// Numbers and lines in a text of bytes: writing. Each function puts a run of bytes at a place of a buffer, and answers where the next byte goes.
 ghost use mathlib.Core.Path.{_≡_};
 ghost use mathlib.Core.List.{_∷_, []};
 ghost use Prim.Native.Nat.{_+_, _*_, _<_, _≤_};
 ghost use lib.ListN.{length, replicate};
-ghost use Rattle.text.specs.Text.{decimalOf, decimal};
-ghost use Rattle.archive.specs.Printed.{fieldsText, lineText};
-ghost use Rattle.archive.specs.Puts.{Puts};
+ghost use Rattle.text.specs.Text.{decimalOf, decimal, fieldsText, lineText, lineOf, refusedText};
+ghost use Rattle.text.specs.Puts.{Puts};
 
 // One byte.
-pub fn put_byte(b: u8, out: &mut [u8], at: usize) -> usize
+fn put_byte(b: u8, out: &mut [u8], at: usize) -> usize
     requires { ⌜ at < length (now out) ⌝ }
     ensures { λ r. ⌜ Puts at (b ∷ []) (now (out .entry)) r (now (out .exit)) ⌝ }
 {
@@ -17,7 +16,7 @@ pub fn put_byte(b: u8, out: &mut [u8], at: usize) -> usize
 }
 
 // The last digits of a number in decimal, at most `most` of them.
-pub fn put_digits(most: u32, v: u32, out: &mut [u8], at: usize) -> usize
+fn put_digits(most: u32, v: u32, out: &mut [u8], at: usize) -> usize
     requires { ⌜ at + most ≤ length (now out) ⌝ }
     ensures { λ r. ⌜ Puts at (decimalOf most v) (now (out .entry)) r (now (out .exit)) ⌝ }
 {
@@ -32,7 +31,7 @@ pub fn put_digits(most: u32, v: u32, out: &mut [u8], at: usize) -> usize
 }
 
 // A comma and a number in decimal.
-pub fn put_field(v: u32, out: &mut [u8], at: usize) -> usize
+fn put_field(v: u32, out: &mut [u8], at: usize) -> usize
     requires { ⌜ at + 11 ≤ length (now out) ⌝ }
     ensures { λ r. ⌜ Puts at (44 ∷ decimal v) (now (out .entry)) r (now (out .exit)) ⌝ }
 {
@@ -41,7 +40,7 @@ pub fn put_field(v: u32, out: &mut [u8], at: usize) -> usize
 }
 
 // The fields of a line: a comma and the number in decimal, for each.
-pub fn put_fields(vs: &[u32], out: &mut [u8], at: usize) -> usize
+fn put_fields(vs: &[u32], out: &mut [u8], at: usize) -> usize
     requires { ⌜ at + 11 * length (now vs) ≤ length (now out) ⌝ }
     ensures { λ r. ⌜ Puts at (fieldsText (now (vs .entry))) (now (out .entry)) r (now (out .exit)) ⌝ }
 {
@@ -68,7 +67,7 @@ pub fn put_word(word: &[u8], out: &mut [u8], at: usize) -> usize
     next
 }
 
-// A line: a word, its fields, and byte 10.
+// A line that begins with a word: the word, its fields, and byte 10.
 pub fn put_line(word: &[u8], vs: &[u32], out: &mut [u8], at: usize) -> usize
     requires { ⌜ at + (length (now word) + 11 * length (now vs) + 1) ≤ length (now out) ⌝ }
     ensures { λ r. ⌜ Puts at (lineText (now (word .entry)) (now (vs .entry))) (now (out .entry)) r (now (out .exit)) ⌝ }
@@ -76,6 +75,26 @@ pub fn put_line(word: &[u8], vs: &[u32], out: &mut [u8], at: usize) -> usize
     let second = put_word(word, out, at);
     let third = put_fields(vs, out, second);
     put_byte(10, out, third)
+}
+
+// A line of numbers: the first one, the fields of the others, and byte 10.
+pub fn put_numbers(vs: &[u32], out: &mut [u8], at: usize) -> usize
+    requires { ⌜ (0 < length (now vs)) × (at + 11 * length (now vs) ≤ length (now out)) ⌝ }
+    ensures { λ r. ⌜ Puts at (lineOf (now (vs .entry))) (now (out .entry)) r (now (out .exit)) ⌝ }
+{
+    let second = put_digits(10, vs[0], out, at);
+    let one = 1;
+    let third = put_fields(&vs[one..], out, second);
+    put_byte(10, out, third)
+}
+
+// The line of a refusal, at the buffer's start.
+pub fn put_refused(number: u32, detail: u32, out: &mut [u8]) -> usize
+    requires { ⌜ 30 ≤ length (now out) ⌝ }
+    ensures { λ r. ⌜ Puts 0 (refusedText number detail) (now (out .entry)) r (now (out .exit)) ⌝ }
+{
+    let fields = [number, detail];
+    put_line(b"refused", &fields, out, 0)
 }
 
 // Zeros.

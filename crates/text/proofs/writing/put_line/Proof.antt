@@ -1,9 +1,9 @@
--- `archive::print::put_line` meets its contract: the word, the fields and byte 10. Assumes nothing.
+-- `text::writing::put_line` meets its contract: the word, the fields and byte 10. Assumes nothing.
 use native.Mathlib.Omega.{arith}
 use borrow.Author.Needs.{needs}
-use Rattle.archive.specs.Puts.{puts-both, length-fields}
-use Rattle.archive.proofs.print.put_line.Statement.{statement}
-use Rattle.archive.proofs.print.put_line.Tie as tie
+use Rattle.text.specs.Puts.{puts-both, length-fields}
+use Rattle.text.proofs.writing.put_line.Statement.{statement}
+use Rattle.text.proofs.writing.put_line.Tie as tie
 
 put-word-requires : tie.Need-put-word-requires
 put-word-requires c κs = search needs

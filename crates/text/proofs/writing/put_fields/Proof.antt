@@ -1,14 +1,14 @@
--- `archive::print::put_fields` meets its contract: after i turns the first i fields are put. Assumes nothing.
+-- `text::writing::put_fields` meets its contract: after i turns the first i fields are put. Assumes nothing.
 use mathlib.Core.Path.{_≡_, ap, _∙_}
 use Prim.Native.Nat.{ℕ, _-_, _≤_}
 use native.Mathlib.Omega.{arith}
 use lib.ListN.{length, take}
 use lib.Seq.{take-length, length-take-le}
 use borrow.Author.Needs.{needs}
-use Rattle.archive.specs.Printed.{fieldsText}
-use Rattle.archive.specs.Puts.{Puts, fields-none, fields-turn, length-fields}
-use Rattle.archive.proofs.print.put_fields.Statement.{statement}
-use Rattle.archive.proofs.print.put_fields.Tie as tie
+use Rattle.text.specs.Text.{fieldsText}
+use Rattle.text.specs.Puts.{Puts, fields-none, fields-turn, length-fields}
+use Rattle.text.proofs.writing.put_fields.Statement.{statement}
+use Rattle.text.proofs.writing.put_fields.Tie as tie
 
 abbrev Inv-loop : tie.InvT-loop
 Inv-loop vs out₀ at next₀ i₀ out next i =

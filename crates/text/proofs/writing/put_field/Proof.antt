@@ -1,8 +1,8 @@
--- `archive::print::put_field` meets its contract: the comma, then the digits. Assumes nothing.
+-- `text::writing::put_field` meets its contract: the comma, then the digits. Assumes nothing.
 use borrow.Author.Needs.{needs}
-use Rattle.archive.specs.Puts.{puts-both}
-use Rattle.archive.proofs.print.put_field.Statement.{statement}
-use Rattle.archive.proofs.print.put_field.Tie as tie
+use Rattle.text.specs.Puts.{puts-both}
+use Rattle.text.proofs.writing.put_field.Statement.{statement}
+use Rattle.text.proofs.writing.put_field.Tie as tie
 
 put-byte-requires : tie.Need-put-byte-requires
 put-byte-requires c κs = search needs

@@ -21,8 +21,8 @@ use Rattle.circuit.specs.Positions.{position-column, position-row}
 use Rattle.circuit.specs.Reasons.{unboundRow}
 use Rattle.circuit.specs.Selectors.{isPublicAt, unboundIn, unbound-same}
 use Rattle.sheet.specs.Sheet.{fieldsDue, linesDue, numberOf, onSelectors, onLabels, onWitness, onPublics, onChallenges, sheetElements}
+use Rattle.sheet.specs.Due.{due-circuit, due-witness, due-publics, due-challenges}
 use Rattle.sheet.specs.Table.{Full, Held, selectorsIn, labelsIn, witnessIn, publicsIn, challengesIn, tableElements}
-use Rattle.sheet.proofs.LineLaws.{due-circuit, due-witness, due-publics, due-challenges}
 
 module _ (s : List ℕ) (n l : ℕ) (t : List ℕ) (full : Full n l t) (held : Held s n l (linesDue n l) t) where
   row : (k : ℕ) → k % n < n

@@ -1,0 +1,123 @@
+-- Two sheets joined to one (document 02, "Joining two deposits").
+--
+-- THE JOINED SHEET
+-- Numbers               the numbers of a sheet: p, n and l, and the five buffers as they are lent
+-- onSheet s             those that stand on the sheet s
+-- textOf N              the sheet that is written from them
+-- sourceRow n l m i     which row stands at row i of the joined sheet, of two sheets of n rows with l and m public inputs: row r of the first (inl r), or
+--                       row r of the second (inr r). The public rows of the first, those of the second, the other rows of the first, those of the second
+-- fromRow f g s         f of a row of the first, g of a row of the second
+-- joinedAt n l m f g k  the number at position k of the joined sheet, f and g giving those at the positions of the first and of the second
+-- joinedNumbers A B     the numbers of the joined sheet: the labels of the second are raised by 3n, the challenges are those of the first
+-- joinedText one two    the joined sheet
+-- joinedLength          the length of the buffer that it is written into
+-- REASONS
+-- joinDue               the lengths due of the two sheets, which have whatever lengths they have, and of the written buffer
+-- otherShape            15: the prime or n differ
+-- pairReasons           15, and 3 where the doubled n is too great
+-- joinReasons           of `join`: those of the first sheet, with 6 for the written buffer among them; those of the second; those of the pair
+-- THE PROMISE
+-- Joins                 refused: the buffer as it came; accepted: the joined sheet, and zeros behind it
+--
+-- Assumes nothing.
+use mathlib.Core.Path.{_≡_}
+use mathlib.Core.Logic.{_⊎_, inl, inr}
+use mathlib.Core.Bool.{cond, not, _&&_}
+use mathlib.Core.List.{List, [], _∷_, _++_}
+use Prim.Native.Nat.{ℕ, _+_, _*_, _-_, _/_, _%_}
+use lib.Dec.{eqb, ltb}
+use lib.ListN.{length, getD, replicate}
+use Rattle.algebra.specs.Lists.{tab}
+use Rattle.field.specs.Reasons.{Reason, answerOf, isAccepted, badRows, badLengths}
+use Rattle.circuit.specs.Circuit.{position, lentWitness, laidWitness}
+use Rattle.circuit.specs.Buffers.{selectorsLength, labelsLength, witnessLength}
+use Rattle.sheet.specs.Sheet.{sheetRows, sheetP, sheetN, sheetL, onSelectors, onLabels, onWitness, onPublics, onChallenges, readReasons}
+use Rattle.sheet.specs.Written.{sheetText}
+use Rattle.joining.specs.declared.Joined.{Joined}
+
+-- THE JOINED SHEET
+
+pub record Numbers : Type 0 where
+  pub p : ℕ
+  pub n : ℕ
+  pub l : ℕ
+  pub selectors : List ℕ
+  pub labels : List ℕ
+  pub witness : List ℕ
+  pub publics : List ℕ
+  pub challenges : List ℕ
+
+abbrev pub onSheet : List ℕ → Numbers
+onSheet s =
+    record {
+      p = sheetP s;
+      n = sheetN s;
+      l = sheetL s;
+      selectors = tab (onSelectors s (sheetN s) (sheetL s)) (selectorsLength (sheetN s));
+      labels = tab (onLabels s (sheetN s) (sheetL s)) (labelsLength (sheetN s));
+      witness = tab (onWitness s (sheetN s) (sheetL s)) (witnessLength (sheetN s));
+      publics = tab (onPublics s (sheetN s) (sheetL s)) (sheetL s);
+      challenges = tab (onChallenges s (sheetN s) (sheetL s)) 4;
+    }
+
+abbrev pub textOf : Numbers → List ℕ
+textOf N = sheetText (N .p) (N .n) (N .l) (N .selectors) (N .labels) (N .witness) (N .publics) (N .challenges)
+
+unfoldable pub sourceRow : (n l m i : ℕ) → ℕ ⊎ ℕ
+sourceRow n l m i =
+    cond (ltb i l) (inl i) (cond (ltb i (l + m)) (inr (i - l)) (cond (ltb i (n + m)) (inl (i - m)) (inr (i - n))))
+
+abbrev pub fromRow : {A : Type 0} → (ℕ → A) → (ℕ → A) → ℕ ⊎ ℕ → A
+fromRow f g (inl r) = f r
+fromRow f g (inr r) = g r
+
+-- position k is in column k / 2n and row k % 2n, and its row of either sheet is in that column too
+unfoldable pub joinedAt : (n l m : ℕ) (f g : ℕ → ℕ) → ℕ → ℕ
+joinedAt n l m f g k =
+    let c : ℕ = k / (2 * n) in
+    fromRow (λ r. f (position n c r)) (λ r. g (position n c r)) (sourceRow n l m (k % (2 * n)))
+
+abbrev pub joinedNumbers : Numbers → Numbers → Numbers
+joinedNumbers A B =
+    let n : ℕ = A .n in
+    let at : (f g : ℕ → ℕ) → ℕ → ℕ = joinedAt n (A .l) (B .l) in
+    record {
+      p = A .p;
+      n = 2 * n;
+      l = A .l + B .l;
+      selectors = tab (at (λ k. getD (A .selectors) k 0) (λ k. getD (B .selectors) k 0)) (selectorsLength (2 * n));
+      labels = tab (at (λ k. getD (A .labels) k 0) (λ k. 3 * n + getD (B .labels) k 0)) (labelsLength (2 * n));
+      witness = laidWitness (2 * n) (at (lentWitness n (A .witness)) (lentWitness n (B .witness)));
+      publics = A .publics ++ B .publics;
+      challenges = A .challenges;
+    }
+
+abbrev pub joinedText : List ℕ → List ℕ → List ℕ
+joinedText one two = textOf (joinedNumbers (onSheet one) (onSheet two))
+
+abbrev pub joinedLength : ℕ
+joinedLength = 65536
+
+-- REASONS
+
+abbrev pub joinDue : ℕ → ℕ → List ℕ
+joinDue one two = one ∷ two ∷ joinedLength ∷ []
+
+abbrev pub otherShape : (p n p' n' : ℕ) → Reason
+otherShape p n p' n' = record { number = 15; detail = 0; applies = not (eqb p p' && eqb n n') }
+
+abbrev pub pairReasons : (p n p' n' : ℕ) → List Reason
+pairReasons p n p' n' = otherShape p n p' n' ∷ badRows p (2 * n) sheetRows ∷ []
+
+-- `joined` is the length of the written buffer
+abbrev pub joinReasons : (one two : List ℕ) (joined : ℕ) → List Reason
+joinReasons one two joined =
+    readReasons one (badLengths (length one ∷ length two ∷ joined ∷ []) (joinDue (length one) (length two)) ∷ [])
+    ++ (readReasons two [] ++ pairReasons (sheetP one) (sheetN one) (sheetP two) (sheetN two))
+
+-- THE PROMISE
+
+pub record Joins (one two joined : List ℕ) (r : Joined) (joined' : List ℕ) : Type 0 where
+  pub answer : r .answer ≡ answerOf (joinReasons one two (length joined))
+  pub long : r .length ≡ cond (isAccepted (r .answer)) (length (joinedText one two)) 0
+  pub written : joined' ≡ cond (isAccepted (r .answer)) (joinedText one two ++ replicate (joinedLength - length (joinedText one two)) 0) joined

@@ -1,0 +1,9 @@
+-- Definitions, then theorems.
+pub mod Joining
+pub mod Rows
+pub mod Lines
+pub mod Deciding
+pub mod Satisfied
+pub mod Tabled
+pub mod Written
+pub mod Theorem

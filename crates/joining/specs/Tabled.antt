@@ -1,0 +1,240 @@
+-- The tables of two sheets hold the lines of the joined sheet.
+--
+-- OF ONE SHEET s, WITH A TABLE t THAT HOLDS ITS LINES
+-- gate-line, raised-line, contents-line, public-line, challenges-line   the lines of the table are the numbers of the sheet
+-- label-few      its labels are small
+-- OF TWO SHEETS THAT CAN BE JOINED
+-- tables         the tables are what the functions ask
+-- table-text     the text that is put from the tables is the joined sheet
+-- found-tables, found-text   both, by the numbers p, n, l and m of a pair that was decided
+--
+-- Assumes nothing.
+use mathlib.Core.Path.{_≡_, refl, sym, ap, ap₂, subst, _∙_}
+use mathlib.Core.Logic.{_⊎_, inl, inr}
+use mathlib.Core.List.{List, [], _∷_, _++_, append-assoc}
+use Prim.Native.Nat.{ℕ, suc, _+_, _*_, _/_, _%_, _≤_, _<_}
+use native.Mathlib.Nat.{mod-eq-of-lt, div-eq-of-lt, mod-one, div-one}
+use native.Mathlib.Omega.{arith}
+use lib.ListN.{length, getD, List·getD-append}
+use lib.Seq.{getD-append-add}
+use Rattle.algebra.specs.Ends.{run-room}
+use Rattle.algebra.specs.Lists.{tab}
+use Rattle.algebra.specs.Tables.{getD-tab, tab-ext, tab-getD}
+use Rattle.field.specs.Primes.{rows-power}
+use Rattle.transform.specs.Parts.{laid}
+use Rattle.circuit.specs.Circuit.{position, lentWitness, laidWitness}
+use Rattle.circuit.specs.Buffers.{selectorsLength, labelsLength, witnessLength}
+use Rattle.circuit.specs.Positions.{position-column, position-row}
+use Rattle.text.specs.Text.{lineOf}
+use Rattle.sheet.specs.Sheet.{linesDue, sheetP, sheetN, sheetL, onSelectors, onLabels, onWitness, onPublics, onChallenges}
+use Rattle.sheet.specs.Table.{Full, Held}
+use Rattle.sheet.specs.TableLaws.{selectors-same, labels-same, witness-same, publics-same, challenges-same}
+use Rattle.sheet.specs.LaidLines.{laid-split, laid-same}
+use Rattle.sheet.specs.Written.{column, circuitLine, witnessLine, publicLine}
+use Rattle.joining.specs.declared.reasons.Pair.{Pair}
+use Rattle.joining.specs.Joining.{Numbers, onSheet, sourceRow, fromRow, joinedAt, joinedNumbers, joinedText}
+use Rattle.joining.specs.Rows.{Below, source-below, joined-word, joined-position}
+use Rattle.joining.specs.Lines.{Tables, lineIn, raisedIn, gateIn, contentsIn, publicIn, tableText}
+use Rattle.joining.specs.Deciding.{Filled, Joinable, Known}
+
+-- a line of 8 numbers is 5 and 3
+eight : (f : ℕ → ℕ) → tab f 8 ≡ tab f 5 ++ tab (λ j. f (5 + j)) 3
+unfolding tab
+eight f = refl
+
+-- OF ONE SHEET
+
+module _ (s t : List ℕ) (full : Full (sheetN s) (sheetL s) t) (held : Held s (sheetN s) (sheetL s) (linesDue (sheetN s) (sheetL s)) t) where
+  abbrev n : ℕ
+  n = sheetN s
+
+  abbrev l : ℕ
+  l = sheetL s
+
+  -- the word of a block whose number k is in line row + k % n, field col + k / n
+  word : (row col c i place : ℕ) → i < n → place ≡ 8 * (row + i) + (col + c)
+      → getD t place 0 ≡ getD t (8 * (row + position n c i % n) + (col + position n c i / n)) 0
+  word row col c i place h e = rw (position-row n c i h, position-column n c i h) (ap (λ (k : ℕ). getD t k 0) e)
+
+  selector-word : (c i : ℕ) → c < 5 → i < n → getD t (8 * suc i + c) 0 ≡ getD (onSheet s .selectors) (position n c i) 0
+  selector-word c i h k =
+      let room : position n c i < 5 * n = omega (arith, run-room c 5 n h) in
+      word 1 0 c i (8 * suc i + c) k (omega arith) ∙ selectors-same s n l t full held (position n c i) room
+      ∙ sym (getD-tab (onSelectors s n l) (selectorsLength n) (position n c i) room)
+
+  label-word : (c i : ℕ) → c < 3 → i < n → getD t (8 * suc i + (5 + c)) 0 ≡ getD (onSheet s .labels) (position n c i) 0
+  label-word c i h k =
+      let room : position n c i < 3 * n = omega (arith, run-room c 3 n h) in
+      word 1 5 c i (8 * suc i + (5 + c)) k (omega arith) ∙ labels-same s n l t full held (position n c i) room
+      ∙ sym (getD-tab (onLabels s n l) (labelsLength n) (position n c i) room)
+
+  wire-word : (c i : ℕ) → c < 3 → i < n → getD t (8 * (n + suc i) + c) 0 ≡ lentWitness n (onSheet s .witness) (position n c i)
+  unfolding lentWitness
+  wire-word c i h k =
+      let room : position n c i < 3 * n = omega (arith, run-room c 3 n h) in
+      word (n + 1) 0 c i (8 * (n + suc i) + c) k (omega arith) ∙ witness-same s n l t full held (position n c i) room
+      ∙ sym (getD-tab (onWitness s n l) (witnessLength n) (position n c i) room)
+
+  public-word : (k : ℕ) → k < l → getD t (8 * (n + n + suc k) + 0) 0 ≡ getD (onSheet s .publics) k 0
+  public-word k h =
+      let below : k < n = omega (arith, full .publics) in
+      let place : 8 * (n + n + suc k) + 0 ≡ 8 * (n + n + 1 + k % n) + (0 + k / n) = omega (arith, mod-eq-of-lt below, div-eq-of-lt below) in
+      ap (λ (m : ℕ). getD t m 0) place ∙ publics-same s n l t full held k h ∙ sym (getD-tab (onPublics s n l) l k h)
+
+  challenge-word : (k : ℕ) → k < 4 → getD t (8 * (n + n + l + 1) + k) 0 ≡ onChallenges s n l k
+  challenge-word k h =
+      let place : 8 * (n + n + l + 1) + k ≡ 8 * (n + n + l + 1 + k % 1) + (0 + k / 1) = omega (arith, mod-one k, div-one k) in
+      ap (λ (m : ℕ). getD t m 0) place ∙ challenges-same s n l t full held k h
+
+  -- THE LINES
+
+  pub gate-line : (i : ℕ) → i < n
+      → lineIn t (suc i) 8 ≡ tab (λ c. getD (onSheet s .selectors) (position n c i) 0) 5 ++ tab (λ c. getD (onSheet s .labels) (position n c i) 0) 3
+  gate-line i h =
+      eight (λ j. getD t (8 * suc i + j) 0)
+      ∙ ap₂ (λ (a b : List ℕ). a ++ b) (tab-ext _ _ 5 (λ c g. selector-word c i g h)) (tab-ext _ _ 3 (λ c g. label-word c i g h))
+
+  pub raised-line : (raise i : ℕ) → i < n
+      → raisedIn t (suc i) raise
+      ≡ tab (λ c. getD (onSheet s .selectors) (position n c i) 0) 5 ++ tab (λ c. raise + getD (onSheet s .labels) (position n c i) 0) 3
+  raised-line raise i h =
+      ap₂ (λ (a b : List ℕ). a ++ b) (tab-ext _ _ 5 (λ c g. selector-word c i g h))
+      (tab-ext _ _ 3 (λ c g. ap (λ (a : ℕ). raise + a) (label-word c i g h)))
+
+  pub contents-line : (i : ℕ) → i < n → lineIn t (n + suc i) 3 ≡ tab (λ c. lentWitness n (onSheet s .witness) (position n c i)) 3
+  contents-line i h = tab-ext _ _ 3 (λ c g. wire-word c i g h)
+
+  pub public-line : (k : ℕ) → k < l → publicIn n t k ≡ publicLine (onSheet s .publics) k
+  unfolding tab
+  public-line k h = ap (λ (a : ℕ). a ∷ []) (public-word k h)
+
+  pub challenges-line : lineIn t (n + n + l + 1) 4 ≡ onSheet s .challenges
+  challenges-line = tab-ext _ _ 4 challenge-word
+
+  pub label-few : Filled (onSheet s) → (i j : ℕ) → i < n → j < 3 → getD t (8 * suc i + (5 + j)) 0 < 3 * n
+  label-few F i j h g =
+      rw (label-word j i g h) (F .circuit-right .circuit .labels (position n j i) (omega (arith, run-room j 3 n g)))
+
+-- OF TWO SHEETS
+
+module _ (one two : List ℕ) (joinable : Joinable (onSheet one) (onSheet two)) (t u : List ℕ) (one-long : length t ≡ 6160) (two-long : length u ≡ 6160)
+    (one-held : Held one (sheetN one) (sheetL one) (linesDue (sheetN one) (sheetL one)) t)
+    (two-held : Held two (sheetN two) (sheetL two) (linesDue (sheetN two) (sheetL two)) u) where
+  abbrev rows : ℕ
+  rows = sheetN one
+
+  abbrev ones : ℕ
+  ones = sheetL one
+
+  abbrev twos : ℕ
+  twos = sheetL two
+
+  some : 0 < rows
+  some = omega (arith, rows-power (sheetP one) (2 * rows) (joinable .admissible .rows) .least)
+
+  one-few : ones ≤ rows
+  one-few = joinable .one .circuit-right .circuit .publics-few
+
+  two-few : twos ≤ rows
+  two-few = omega (arith, joinable .two .circuit-right .circuit .publics-few, joinable .same-n)
+
+  one-full : Full rows ones t
+  one-full = record { some = some; few = omega (arith, joinable .few); publics = one-few; long = one-long }
+
+  two-full : Full (sheetN two) twos u
+  two-full =
+      record {
+        some = omega (arith, some, joinable .same-n);
+        few = omega (arith, joinable .few, joinable .same-n);
+        publics = omega (arith, two-few, joinable .same-n);
+        long = two-long;
+      }
+
+  pub tables : Tables rows ones twos t u
+  tables =
+      record {
+        few = omega (arith, joinable .few);
+        one-few = one-few;
+        two-few = two-few;
+        one-long = one-long;
+        two-long = two-long;
+        labels-few = λ i j h g. omega (arith, label-few two u two-full two-held (joinable .two) i j (omega (arith, joinable .same-n)) g, joinable .same-n, joinable .few);
+      }
+
+  abbrev J : Numbers
+  J = joinedNumbers (onSheet one) (onSheet two)
+
+  -- the lines of the second sheet, by the n of the first
+  two-gate : (i : ℕ) → i < rows
+      → raisedIn u (suc i) (3 * rows)
+      ≡ tab (λ c. getD (onSheet two .selectors) (position rows c i) 0) 5 ++ tab (λ c. 3 * rows + getD (onSheet two .labels) (position rows c i) 0) 3
+  two-gate i h =
+      raised-line two u two-full two-held (3 * rows) i (omega (arith, joinable .same-n))
+      ∙ ap (λ (n : ℕ). tab (λ c. getD (onSheet two .selectors) (position n c i) 0) 5 ++ tab (λ c. 3 * rows + getD (onSheet two .labels) (position n c i) 0) 3) (sym (joinable .same-n))
+
+  two-contents : (i : ℕ) → i < rows → lineIn u (rows + suc i) 3 ≡ tab (λ c. lentWitness rows (onSheet two .witness) (position rows c i)) 3
+  two-contents i h =
+      ap (λ (n : ℕ). lineIn u (n + suc i) 3) (joinable .same-n)
+      ∙ contents-line two u two-full two-held i (omega (arith, joinable .same-n))
+      ∙ ap (λ (n : ℕ). tab (λ c. lentWitness n (onSheet two .witness) (position n c i)) 3) (sym (joinable .same-n))
+
+  two-public : (i : ℕ) → i < twos → publicIn rows u i ≡ publicLine (onSheet two .publics) i
+  two-public i h = ap (λ (n : ℕ). publicIn n u i) (joinable .same-n) ∙ public-line two u two-full two-held i h
+
+  -- the lines of the joined sheet, by the row that each comes from
+  gate-same : (i : ℕ) → i < 2 * rows → gateIn rows ones twos t u i ≡ circuitLine (2 * rows) (J .selectors) (J .labels) i
+  gate-same i h =
+      go (sourceRow rows ones twos i) (source-below rows ones twos one-few two-few i h)
+      ∙ sym (ap₂ (λ (a b : List ℕ). a ++ b)
+      (tab-ext _ _ 5 (λ c g. joined-word rows ones twos 5 (λ k. getD (onSheet one .selectors) k 0) (λ k. getD (onSheet two .selectors) k 0) c i g h))
+      (tab-ext _ _ 3 (λ c g. joined-word rows ones twos 3 (λ k. getD (onSheet one .labels) k 0) (λ k. 3 * rows + getD (onSheet two .labels) k 0) c i g h)))
+    where
+      go : (s : ℕ ⊎ ℕ) → Below rows s
+          → fromRow (λ r. lineIn t (suc r) 8) (λ r. raisedIn u (suc r) (3 * rows)) s
+          ≡ tab (λ c. fromRow (λ r. getD (onSheet one .selectors) (position rows c r) 0) (λ r. getD (onSheet two .selectors) (position rows c r) 0) s) 5
+          ++ tab (λ c. fromRow (λ r. getD (onSheet one .labels) (position rows c r) 0) (λ r. 3 * rows + getD (onSheet two .labels) (position rows c r) 0) s) 3
+      go (inl r) b = gate-line one t one-full one-held r b
+      go (inr r) b = two-gate r b
+
+  contents-same : (i : ℕ) → i < 2 * rows → contentsIn rows ones twos t u i ≡ witnessLine (2 * rows) (J .witness) i
+  unfolding laidWitness
+  contents-same i h =
+      go (sourceRow rows ones twos i) (source-below rows ones twos one-few two-few i h)
+      ∙ sym (tab-ext _ _ 3 (λ c g. joined-word rows ones twos 3 (lentWitness rows (onSheet one .witness)) (lentWitness rows (onSheet two .witness)) c i g h))
+    where
+      go : (s : ℕ ⊎ ℕ) → Below rows s
+          → fromRow (λ r. lineIn t (rows + suc r) 3) (λ r. lineIn u (rows + suc r) 3) s
+          ≡ tab (λ c. fromRow (λ r. lentWitness rows (onSheet one .witness) (position rows c r)) (λ r. lentWitness rows (onSheet two .witness) (position rows c r)) s) 3
+      go (inl r) b = contents-line one t one-full one-held r b
+      go (inr r) b = two-contents r b
+
+  publics-same-lines : laid (λ i. lineOf (publicIn rows t i)) ones ++ laid (λ i. lineOf (publicIn rows u i)) twos
+      ≡ laid (λ i. lineOf (publicLine (J .publics) i)) (ones + twos)
+  publics-same-lines =
+      sym (laid-split (λ i. lineOf (publicLine (J .publics) i)) ones twos
+      ∙ ap₂ (λ (a b : List ℕ). a ++ b)
+      (laid-same _ _ ones (λ i h. ap lineOf (ap (λ (a : ℕ). a ∷ []) (List·getD-append (onSheet one .publics) (onSheet two .publics) 0 i (omega (arith, joinable .one .publics-right .long))) ∙ sym (public-line one t one-full one-held i h))))
+      (laid-same _ _ twos (λ i h. ap lineOf (ap (λ (a : ℕ). a ∷ []) (behind i) ∙ sym (two-public i h)))))
+    where
+      behind : (i : ℕ) → getD (J .publics) (ones + i) 0 ≡ getD (onSheet two .publics) i 0
+      behind i =
+          ap (λ (k : ℕ). getD (J .publics) (k + i) 0) (sym (joinable .one .publics-right .long)) ∙ getD-append-add (onSheet one .publics) (onSheet two .publics) i 0
+
+  pub table-text : tableText (sheetP one) rows ones twos t u ≡ joinedText one two
+  table-text =
+      ap (λ (a : List ℕ). lineOf (sheetP one ∷ 2 * rows ∷ ones + twos ∷ []) ++ a)
+      (ap₂ (λ (a b : List ℕ). a ++ b) (laid-same _ _ (2 * rows) (λ i h. ap lineOf (gate-same i h)))
+      (ap₂ (λ (a b : List ℕ). a ++ b) (laid-same _ _ (2 * rows) (λ i h. ap lineOf (contents-same i h)))
+      (sym (append-assoc (laid (λ i. lineOf (publicIn rows t i)) ones) (laid (λ i. lineOf (publicIn rows u i)) twos) _)
+      ∙ ap₂ (λ (a b : List ℕ). a ++ b) publics-same-lines (ap lineOf (challenges-line one t one-full one-held)))))
+
+-- THE SAME, BY THE NUMBERS THAT WERE FOUND
+
+module _ (one two : List ℕ) (joinable : Joinable (onSheet one) (onSheet two)) (r : Pair) (t u : List ℕ) (known : Known one two r t u) (one-long : length t ≡ 6160)
+    (two-long : length u ≡ 6160) where
+  pub found-tables : Tables (r .n) (r .l) (r .m) t u
+  found-tables = rw (known .n-is, known .l-is, known .m-is) (tables one two joinable t u one-long two-long (known .one-held) (known .two-held))
+
+  pub found-text : tableText (r .p) (r .n) (r .l) (r .m) t u ≡ joinedText one two
+  found-text =
+      rw (known .p-is, known .n-is, known .l-is, known .m-is) (table-text one two joinable t u one-long two-long (known .one-held) (known .two-held))

@@ -1,0 +1,43 @@
+-- What is proved of every two sheets that are joined.
+--
+-- JoinedRightly one two   the joined sheet fits into the written buffer; reading it is accepted, and gives the joined numbers; they are a circuit of 2n
+--                         rows with the public inputs of both; its wiring never leads from one sheet's positions to the other's; and its contents
+--                         satisfy it with its public inputs exactly if those of both sheets did
+-- joined-rightly          THE THEOREM: so it is wherever no reason of `join` applies
+--
+-- Assumes nothing.
+use mathlib.Core.Path.{_≡_}
+use mathlib.Core.List.{List}
+use Prim.Native.Nat.{ℕ, _+_, _*_, _≤_, _<_}
+use lib.ListN.{length}
+use Rattle.field.specs.Reasons.{answerOf}
+use Rattle.circuit.specs.Circuit.{Circuit, permutation}
+use Rattle.sheet.specs.Sheet.{sheetP, sheetN, sheetL, readAnswer}
+use Rattle.joining.specs.Joining.{onSheet, joinedNumbers, joinedText, joinedLength, joinReasons}
+use Rattle.joining.specs.Deciding.{Joinable, joinable-of}
+use Rattle.joining.specs.Satisfied.{constraintsOf, Right, fromSecond, joined-circuit, wiring-apart, both-of, joined-of}
+use Rattle.joining.specs.Written.{joined-fits, joined-accepted, joined-back}
+
+pub record JoinedRightly (one two : List ℕ) : Type 0 where
+  pub fits : length (joinedText one two) ≤ joinedLength
+  pub accepted : readAnswer (joinedText one two) ≡ record { number = 0; detail = 0 }
+  pub back : onSheet (joinedText one two) ≡ joinedNumbers (onSheet one) (onSheet two)
+  pub circuit : Circuit (sheetP one) (2 * sheetN one) (sheetL one + sheetL two) (constraintsOf (joinedNumbers (onSheet one) (onSheet two)))
+  pub apart : (k : ℕ) → k < 3 * (2 * sheetN one)
+      → fromSecond (sheetN one) (sheetL one) (sheetL two) (permutation (3 * (2 * sheetN one)) (constraintsOf (joinedNumbers (onSheet one) (onSheet two)) .label) k)
+      ≡ fromSecond (sheetN one) (sheetL one) (sheetL two) k
+  pub both : Right (joinedNumbers (onSheet one) (onSheet two)) → Right (onSheet one) × Right (onSheet two)
+  pub satisfied : Right (onSheet one) → Right (onSheet two) → Right (joinedNumbers (onSheet one) (onSheet two))
+
+pub joined-rightly : (one two : List ℕ) (room : ℕ) → answerOf (joinReasons one two room) .number ≡ 0 → JoinedRightly one two
+joined-rightly one two room e =
+    let joinable : Joinable (onSheet one) (onSheet two) = joinable-of one two room e in
+    record {
+      fits = joined-fits (onSheet one) (onSheet two) joinable;
+      accepted = joined-accepted (onSheet one) (onSheet two) joinable;
+      back = joined-back (onSheet one) (onSheet two) joinable;
+      circuit = joined-circuit (onSheet one) (onSheet two) joinable;
+      apart = wiring-apart (onSheet one) (onSheet two) joinable;
+      both = both-of (onSheet one) (onSheet two) joinable;
+      satisfied = joined-of (onSheet one) (onSheet two) joinable;
+    }

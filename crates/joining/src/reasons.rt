@@ -1,0 +1,83 @@
+// Why two sheets are not joined, if they are not. Only the tables are written, which are the caller's own.
+ghost use mathlib.Core.Path.{_≡_};
+ghost use Prim.Native.Nat.{_≤_};
+ghost use lib.ListN.{length};
+ghost use Rattle.field.specs.Reasons.{answerOf};
+ghost use Rattle.joining.specs.Joining.{pairReasons};
+ghost use Rattle.joining.specs.Deciding.{Decides};
+use field::Answer;
+
+// The answer of all reasons; p and n, which both sheets have, and their numbers of public inputs where none applies.
+pub struct Pair {
+    pub answer: Answer,
+    pub p: u32,
+    pub n: usize,
+    pub l: usize,
+    pub m: usize,
+}
+
+// The greatest number of rows on a sheet.
+const ROWS: u32 = 256;
+
+// A refusal.
+fn turned_down(answer: Answer) -> Pair
+    ensures { λ r. ⌜ r .answer ≡ answer ⌝ }
+{
+    Pair {
+        answer,
+        p: 0,
+        n: 0,
+        l: 0,
+        m: 0,
+    }
+}
+
+// The reasons of the pair: 15 where the prime or n differ, 3 where the doubled n is too great.
+fn decide_pair(p: u32, n: u32, other_p: u32, other_n: u32) -> Answer
+    requires { ⌜ n ≤ 256 ⌝ }
+    ensures { λ r. ⌜ r ≡ answerOf (pairReasons p n other_p other_n) ⌝ }
+{
+    if p != other_p {
+        return field::refused(15, 0);
+    }
+    if n != other_n {
+        return field::refused(15, 0);
+    }
+    if !field::is_rows(p, 2 * n) {
+        return field::refused(3, 0);
+    }
+    if ROWS < 2 * n {
+        return field::refused(3, 0);
+    }
+    field::accepted()
+}
+
+// The reasons of the first sheet, with that of the written buffer among them, those of the second, and those of the pair. `room` is the
+// length of the written buffer. The tables are filled where none applies.
+pub fn decide(one: &[u8], two: &[u8], room: usize, first: &mut [u32], second: &mut [u32]) -> Pair
+    requires { ⌜ (length (now first) ≡ 6160) × (length (now second) ≡ 6160) ⌝ }
+    ensures { λ r. ⌜ Decides (now (one .entry)) (now (two .entry)) room r (now (first .exit)) (now (second .exit)) ⌝ }
+{
+    let long = [one.len(), two.len(), room];
+    let due = [one.len(), two.len(), 65536];
+    let a = sheet::decide(one, first, &long, &due);
+    let answer = a.answer;
+    let number = answer.number;
+    if number != 0 {
+        return turned_down(answer);
+    }
+    let b = sheet::decide(two, second, &long, &due);
+    let answer = b.answer;
+    let number = answer.number;
+    if number != 0 {
+        return turned_down(answer);
+    }
+    let answer = decide_pair(a.p, a.n, b.p, b.n);
+    Pair {
+        answer,
+        p: a.p,
+        n: a.n as usize,
+        l: a.l as usize,
+        m: b.l as usize,
+    }
+}

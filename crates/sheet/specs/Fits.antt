@@ -1,0 +1,50 @@
+-- How long a sheet is that is written from numbers.
+--
+-- circuit-long   a gate line has 8 numbers
+-- sheet-long     a number has at most 10 digits, so a row of both kinds of lines has at most 121 bytes, and a public input at most 11
+--
+-- Assumes nothing.
+use mathlib.Core.Path.{_≡_, _∙_}
+use mathlib.Core.List.{List, [], _∷_, _++_}
+use Prim.Native.Nat.{ℕ, _+_, _*_, _≤_, _<_}
+use native.Mathlib.Omega.{arith}
+use lib.ListN.{length, length-append}
+use Rattle.algebra.specs.Lists.{tab}
+use Rattle.algebra.specs.Tables.{length-tab}
+use Rattle.transform.specs.Parts.{laid}
+use Rattle.text.specs.Text.{lineOf}
+use Rattle.text.specs.Puts.{length-numbers}
+use Rattle.sheet.specs.Written.{column, circuitLine, witnessLine, publicLine, sheetText}
+use Rattle.sheet.specs.LaidLines.{laid-long}
+
+pub circuit-long : (n : ℕ) (selectors labels : List ℕ) (i : ℕ) → length (circuitLine n selectors labels i) ≡ 8
+circuit-long n selectors labels i = length-append (tab (column n selectors i) 5) (tab (column n labels i) 3) ∙ simp length-tab
+
+-- a line of k numbers
+line-long : (vs : List ℕ) (k : ℕ) → length vs ≡ k → 0 < k → length (lineOf vs) ≤ 11 * k
+line-long vs k e h = omega (arith, length-numbers vs (omega arith))
+
+module _ (p n l : ℕ) (selectors labels witness publics challenges : List ℕ) where
+  abbrev gates : List ℕ
+  gates = laid (λ i. lineOf (circuitLine n selectors labels i)) n
+
+  abbrev contents : List ℕ
+  contents = laid (λ i. lineOf (witnessLine n witness i)) n
+
+  abbrev inputs : List ℕ
+  inputs = laid (λ i. lineOf (publicLine publics i)) l
+
+  pub sheet-long : length challenges ≡ 4 → length (sheetText p n l selectors labels witness publics challenges) ≤ 121 * n + 11 * l + 77
+  sheet-long four =
+      omega (
+        arith,
+        length-append (lineOf (p ∷ n ∷ l ∷ [])) (gates ++ (contents ++ (inputs ++ lineOf challenges))),
+        length-append gates (contents ++ (inputs ++ lineOf challenges)),
+        length-append contents (inputs ++ lineOf challenges),
+        length-append inputs (lineOf challenges),
+        length-numbers (p ∷ n ∷ l ∷ []) (omega arith),
+        laid-long (λ i. lineOf (circuitLine n selectors labels i)) 88 n (λ i h. line-long (circuitLine n selectors labels i) 8 (circuit-long n selectors labels i) (omega arith)),
+        laid-long (λ i. lineOf (witnessLine n witness i)) 33 n (λ i h. line-long (witnessLine n witness i) 3 (length-tab (column n witness i) 3) (omega arith)),
+        laid-long (λ i. lineOf (publicLine publics i)) 11 l (λ i h. length-numbers (publicLine publics i) (omega arith)),
+        line-long challenges 4 four (omega arith),
+      )
