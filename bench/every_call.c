@@ -26,6 +26,9 @@ static const uint32_t point[GUPPYSPOON_OPEN_CHALLENGES] = {2, 3};
 static const uint32_t evaluated[] = {0, 10, 3, 3, 8};
 static const uint32_t opened[GUPPYSPOON_OPENING_LENGTH(N)] = {14, 8};
 static const char sheet[] = "17,2,0\n0,0,16,1,0,0,1,2\n1,1,16,0,0,2,2,3\n2,3,6\n6,6,12\n1,1,2,2\n";
+static const char public_sheet[] = "17,2,1\n1,0,0,0,0,0,1,2\n1,1,16,0,0,2,2,3\n2,3,6\n6,6,12\n2\n3,4,5,6\n";
+static const char both[] = "17,4,1\n1,0,0,0,0,6,7,8\n0,0,16,1,0,0,1,2\n1,1,16,0,0,2,2,3\n1,1,16,0,0,8,8,9\n"
+                           "2,3,6\n2,3,6\n6,6,12\n6,6,12\n2\n1,1,2,2\n";
 static const char printed[] = "a,4,15\nb,13,7\nc,9,14\nz,16,2\nt,9,12,15\naccept\n";
 
 static uint32_t values[N];
@@ -42,6 +45,7 @@ static uint32_t sheet_witness[GUPPYSPOON_SHEET_WITNESS_LENGTH];
 static uint32_t sheet_publics[GUPPYSPOON_SHEET_PUBLICS_LENGTH];
 static uint32_t sheet_challenges[GUPPYSPOON_SHEET_CHALLENGES_LENGTH];
 static uint8_t text[GUPPYSPOON_TEXT_LENGTH];
+static uint8_t joined[GUPPYSPOON_JOINED_LENGTH];
 static uint32_t answer[ROOM];
 static int differences = 0;
 
@@ -97,6 +101,29 @@ static void read(const uint8_t *bytes, size_t length)
 {
     guppyspoon_read(bytes, length, LENT(sheet_selectors), LENT(sheet_labels), LENT(sheet_witness), LENT(sheet_publics), LENT(sheet_challenges),
                     LENT(answer));
+}
+
+static void join(const char *one, const char *two, size_t length)
+{
+    guppyspoon_join(SHEET(one), SHEET(two), joined, length, LENT(answer));
+}
+
+/* Behind the joined sheet there are zeros, and a refusal leaves all of it. */
+static void every_join(void)
+{
+    memset(joined, UNTOUCHED, sizeof joined);
+    join(sheet, public_sheet, sizeof joined);
+    EXPECT("join", GUPPYSPOON_JOIN_WORDS, GUPPYSPOON_ACCEPTED, 0, sizeof both - 1);
+    expect_that("the joined sheet", memcmp(joined, both, sizeof both) == 0);
+    for (size_t i = sizeof both; i < sizeof joined; i++)
+        expect_that("zeros behind the joined sheet", joined[i] == 0);
+    join(sheet, sheet, GUPPYSPOON_JOINED_LENGTH - 1);
+    EXPECT("join, reason 6", GUPPYSPOON_JOIN_WORDS, GUPPYSPOON_BAD_LENGTH, 3, 0);
+    join(both, both, GUPPYSPOON_JOINED_LENGTH);
+    EXPECT("join, reason 3", GUPPYSPOON_JOIN_WORDS, GUPPYSPOON_BAD_ROWS, 0, 0);
+    join(sheet, both, GUPPYSPOON_JOINED_LENGTH);
+    EXPECT("reason 15", GUPPYSPOON_JOIN_WORDS, GUPPYSPOON_UNLIKE_SHEETS, 0, 0);
+    expect_that("the joined sheet is left", memcmp(joined, both, sizeof both) == 0);
 }
 
 static void every_call(void)
@@ -157,7 +184,7 @@ static void every_verdict(void)
     EXPECT("no opening verdict", GUPPYSPOON_CHECK_OPENING_WORDS, GUPPYSPOON_BAD_ELEMENT, 31, GUPPYSPOON_POINT_NONE);
 }
 
-/* The reasons that no verdict above came with. */
+/* The reasons that came with no join and no verdict above. */
 static void every_reason(void)
 {
     read(SHEET("17,2\n"));
@@ -235,6 +262,7 @@ int main(void)
     for (size_t i = 0; i < ROOM; i++)
         answer[i] = UNTOUCHED;
     every_call();
+    every_join();
     every_verdict();
     every_reason();
     most_rows("most rows of 17", 17, GUPPYSPOON_MOST_ROWS_17);

@@ -54,9 +54,11 @@ extern "C" {
 #define GUPPYSPOON_OPEN_CHALLENGES 2          /* the point, the mixing number m */
 #define GUPPYSPOON_CHECK_OPENING_CHALLENGES 2 /* the same */
 
-/* Sheets: the most bytes of one, the bytes of a deposit's text, and the words of the buffers that a sheet is read into. */
+/* Sheets: the most bytes of one, the bytes of a deposit's text and of the buffer for a joined sheet, and the words of the buffers that a sheet is
+ * read into. */
 #define GUPPYSPOON_SHEET_MOST_BYTES 65536
 #define GUPPYSPOON_TEXT_LENGTH 20480
+#define GUPPYSPOON_JOINED_LENGTH 65536
 #define GUPPYSPOON_SHEET_SELECTORS_LENGTH 1280
 #define GUPPYSPOON_SHEET_LABELS_LENGTH 768
 #define GUPPYSPOON_SHEET_WITNESS_LENGTH 768
@@ -76,6 +78,7 @@ extern "C" {
 #define GUPPYSPOON_PROVE_WORDS 2
 #define GUPPYSPOON_READ_WORDS 5
 #define GUPPYSPOON_DEPOSIT_WORDS 3
+#define GUPPYSPOON_JOIN_WORDS 3
 
 /* The bytes of stack that are enough for each call, whatever is lent to it: at least 4,096 more than bench/ measures at the largest size, since the
  * first call of a program may take some 3,200 more, while the loader looks up memcpy. What a signal handler takes is not in them. */
@@ -91,6 +94,7 @@ extern "C" {
 #define GUPPYSPOON_PROVE_STACK 245760
 #define GUPPYSPOON_READ_STACK 32768
 #define GUPPYSPOON_DEPOSIT_STACK 294912
+#define GUPPYSPOON_JOIN_STACK 122880
 
 /* Word 0 of an answer: accepted, or the first of the call's reasons, in the order in which they are named at the call, that applies. Word 1 is the
  * detail, 0 unless named here. */
@@ -109,7 +113,8 @@ enum guppyspoon_reason {
     GUPPYSPOON_ZERO_DENOMINATOR = 11, /* a factor of a denominator of z is 0; detail: the lowest row */
     GUPPYSPOON_BAD_LIST = 12,         /* a list of polynomials is empty or longer than 13 */
     GUPPYSPOON_BAD_NUMBER = 13,       /* the number of a polynomial is above 12; detail: the first such place in the list, from 0 */
-    GUPPYSPOON_BAD_PUBLIC_ROW = 14    /* a row below l is no public row; detail: the lowest such row */
+    GUPPYSPOON_BAD_PUBLIC_ROW = 14,   /* a row below l is no public row; detail: the lowest such row */
+    GUPPYSPOON_UNLIKE_SHEETS = 15     /* two sheets differ in p or in n */
 };
 
 /* Word 2 of the answer of guppyspoon_check_rows. */
@@ -252,6 +257,19 @@ void guppyspoon_read(const uint8_t *sheet, size_t sheet_length, uint32_t *select
  * Answer: number, detail, the bytes of the text (0 if refused).
  */
 void guppyspoon_deposit(const uint8_t *sheet, size_t sheet_length, uint8_t *text, size_t text_length, uint32_t *answer, size_t answer_length);
+
+/* Two sheets of the same p and n joined to one of 2n rows, zeros behind: the public rows of the first, those of the second, the other rows of the
+ * first, those of the second, each with its witness; l is the sum. The labels of the second are raised by 3n. The public inputs are those of the
+ * first, then those of the second; the challenges are those of the first. Whether either witness satisfies its circuit is not looked at.
+ *
+ * Buffers: 1 one, the first sheet, any number of bytes (above 65,536 gives reason 1); 2 two, the second, the same; 3 joined, 65,536 bytes, written.
+ *   `one` and `two` may be the same sheet.
+ * Reasons: of the first sheet 1, 2, 3, 4, 5, 6 (detail 3), 7, 8, 14; then of the second 1, 2, 3, 4, 5, 7, 8, 14, each as at guppyspoon_read; then 15;
+ *   then 3 (2n is above the greatest for p, or above 256).
+ * Answer: number, detail, the bytes of the joined sheet (0 if refused).
+ */
+void guppyspoon_join(const uint8_t *one, size_t one_length, const uint8_t *two, size_t two_length, uint8_t *joined, size_t joined_length,
+                     uint32_t *answer, size_t answer_length);
 
 #ifdef __cplusplus
 }

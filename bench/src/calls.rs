@@ -50,6 +50,10 @@ extern "C" {
         answer: *mut u32, answer_length: usize,
     );
     fn guppyspoon_deposit(sheet: *const u8, sheet_length: usize, text: *mut u8, text_length: usize, answer: *mut u32, answer_length: usize);
+    fn guppyspoon_join(
+        one: *const u8, one_length: usize, two: *const u8, two_length: usize, joined: *mut u8, joined_length: usize, answer: *mut u32,
+        answer_length: usize,
+    );
 }
 
 // Where a function starts, by its name without the prefix.
@@ -67,6 +71,7 @@ pub fn address(name: &str) -> *const () {
         "prove" => guppyspoon_prove as *const (),
         "read" => guppyspoon_read as *const (),
         "deposit" => guppyspoon_deposit as *const (),
+        "join" => guppyspoon_join as *const (),
         _ => unreachable!("the library has no guppyspoon_{name}"),
     }
 }
@@ -309,4 +314,19 @@ pub fn read(
 
 pub fn deposit(sheet: &[u8], text: &mut [u8], answer: &mut [u32]) {
     unsafe { guppyspoon_deposit(sheet.as_ptr(), sheet.len(), text.as_mut_ptr(), text.len(), answer.as_mut_ptr(), answer.len()) }
+}
+
+pub fn join(one: &[u8], two: &[u8], joined: &mut [u8], answer: &mut [u32]) {
+    unsafe {
+        guppyspoon_join(
+            one.as_ptr(),
+            one.len(),
+            two.as_ptr(),
+            two.len(),
+            joined.as_mut_ptr(),
+            joined.len(),
+            answer.as_mut_ptr(),
+            answer.len(),
+        )
+    }
 }

@@ -1,10 +1,20 @@
-// The sheet of document 01 with the answers that it gives, and openings of its polynomials with answers worked out by hand, on both sides.
+// The sheet of document 01 with the answers that it gives, and openings of its polynomials and joins of it with answers worked out by hand, on both
+// sides.
 use crate::kinds::{plainly, proved, Case, Kind};
-use crate::{calls, plain, sheets};
+use crate::{calls, join_compare, plain, sheets};
 
 pub const SHEET: &[u8] = b"17,2,0\n0,0,16,1,0,0,1,2\n1,1,16,0,0,2,2,3\n2,3,6\n6,6,12\n1,1,2,2\n";
 // The same with row 0 made a public row, and the content of its a as public number.
 const PUBLIC: &str = "17,2,1\n1,0,0,0,0,0,1,2\n1,1,16,0,0,2,2,3\n2,3,6\n6,6,12\n2\n1,1,2,2\n";
+// Joined sheets: the sheet with itself, with the one that has a public row, that one with it, and that one with itself.
+const TWICE: &str =
+    "17,4,0\n0,0,16,1,0,0,1,2\n1,1,16,0,0,2,2,3\n0,0,16,1,0,6,7,8\n1,1,16,0,0,8,8,9\n2,3,6\n6,6,12\n2,3,6\n6,6,12\n1,1,2,2\n";
+const PUBLIC_SECOND: &str =
+    "17,4,1\n1,0,0,0,0,6,7,8\n0,0,16,1,0,0,1,2\n1,1,16,0,0,2,2,3\n1,1,16,0,0,8,8,9\n2,3,6\n2,3,6\n6,6,12\n6,6,12\n2\n1,1,2,2\n";
+const PUBLIC_FIRST: &str =
+    "17,4,1\n1,0,0,0,0,0,1,2\n1,1,16,0,0,2,2,3\n0,0,16,1,0,6,7,8\n1,1,16,0,0,8,8,9\n2,3,6\n6,6,12\n2,3,6\n6,6,12\n2\n1,1,2,2\n";
+const PUBLIC_TWICE: &str =
+    "17,4,2\n1,0,0,0,0,0,1,2\n1,0,0,0,0,6,7,8\n1,1,16,0,0,2,2,3\n1,1,16,0,0,8,8,9\n2,3,6\n2,3,6\n6,6,12\n6,6,12\n2\n2\n1,1,2,2\n";
 const PRINTED: &str = "a,4,15\nb,13,7\nc,9,14\nz,16,2\nt,9,12,15\naccept\n";
 
 const SELECTORS: [u32; 10] = [0, 1, 0, 1, 16, 16, 1, 0, 0, 0];
@@ -117,6 +127,31 @@ fn public_rows() -> usize {
     off
 }
 
+fn join(name: &str, one: &str, two: &str, due: &str) -> usize {
+    join_compare::expect(&format!("from document 02, joining {name}"), one.as_bytes(), two.as_bytes(), due.as_bytes())
+}
+
+// The sheet and the one with a public row, joined with themselves and with each other.
+fn joins() -> usize {
+    let sheet = std::str::from_utf8(SHEET).unwrap();
+    let other = PUBLIC.replacen("1,1,2,2\n", "3,4,5,6\n", 1);
+    let mut off = join("the sheet with itself", sheet, sheet, TWICE);
+    off += join("the sheet with a public one", sheet, &other, PUBLIC_SECOND);
+    off += join("a public one with the sheet", PUBLIC, sheet, PUBLIC_FIRST);
+    off += join("two public ones", PUBLIC, &other, PUBLIC_TWICE);
+    off += join("8 rows over 17", TWICE, PUBLIC_FIRST, "refused,3,0\n");
+    off += join("4 rows and 2", TWICE, sheet, "refused,15,0\n");
+    off += join("2 rows and 4", sheet, TWICE, "refused,15,0\n");
+    off += join("primes 17 and 97", sheet, &sheet.replacen("17,", "97,", 1), "refused,15,0\n");
+    off += join("a first that ends early", &sheet[..sheet.len() - 8], "", "refused,5,6\n");
+    off += join("an empty second", sheet, "", "refused,1,0\n");
+    off += join("a second with content 17", sheet, &sheet.replacen("6,6,12", "6,6,17", 1), "refused,7,15\n");
+    off += join("a second with label 6", sheet, &sheet.replacen("2,2,3", "2,2,6", 1), "refused,8,5\n");
+    off += join("a second with a wrong public row", sheet, &PUBLIC.replacen("1,0,0,0,0", "1,0,16,0,0", 1), "refused,14,0\n");
+    off += join("label 6 before the second's prime", &sheet.replacen("2,2,3", "2,2,6", 1), "18,2,0\n", "refused,8,5\n");
+    off
+}
+
 pub fn run() -> usize {
     let untouched = [7; 11];
     let mut off = 0;
@@ -141,6 +176,7 @@ pub fn run() -> usize {
     off += opening("z twice at row 1's point, m 1", &prepared, &[11, 11], &[16, 1], &[14, 14], &[4, 0]);
     off += deposits();
     off += public_rows();
+    off += joins();
     println!("the sheet of document 01: {off} differences");
     off
 }

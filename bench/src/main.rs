@@ -1,5 +1,5 @@
-// Compares the proved library with a plain implementation of document 01 and of the openings of document 02, holds the C header to the library, and
-// measures stack and time. Run it from the repository's root:
+// Compares the proved library with a plain implementation of document 01 and of the openings and joins of document 02, holds the C header to the
+// library, and measures stack and time. Run it from the repository's root:
 //
 //     rt staticlib exports && cargo run --release --manifest-path bench/Cargo.toml
 //
@@ -11,10 +11,11 @@
 //     header    compares include/guppyspoon.h with the library's source, and compiles and runs the C programs that include it
 //     stack     prints the stack that each call takes at its largest size, beside what the header says
 //     measure   prints the time of each call on both sides and the ratio
-//     growth    prints the same of prove at every number of rows, from 2 to 1,024
+//     growth    prints the same of prove at every number of rows, from 2 to 1,024, and of join, from 2 to 128 rows of each sheet
 //
 // Behind `--` a number multiplies the number of cases, and a folder has its files that end in .sheet compared too, read and deposited, and the texts
-// with its files that end in .out. The exit status is 1 if anything differs, or the header says too little of a call's stack.
+// with its files that end in .out; and its pairs of files that end in .one and .two, joined, and what they give with those that end in .out. The exit
+// status is 1 if anything differs, or the header says too little of a call's stack.
 use std::path::Path;
 
 mod calls;
@@ -23,6 +24,8 @@ mod compare;
 mod declarations;
 mod document;
 mod header;
+mod join_compare;
+mod joins;
 mod kinds;
 mod measure;
 mod numbers;
@@ -41,6 +44,23 @@ mod transforms;
 
 const PARTS: [&str; 5] = ["compare", "header", "stack", "measure", "growth"];
 
+// The sheets of a folder, and its pairs of sheets. How many differ; a folder that has neither was meant to have some.
+fn run_folder(folder: &Path) -> usize {
+    let [sheets, pairs] = ["sheet", "one"].map(|ending| !sheet_compare::files(folder, ending).is_empty());
+    let mut differences = 0;
+    if sheets {
+        differences += sheet_compare::run_folder(folder);
+    }
+    if pairs {
+        differences += join_compare::run_folder(folder);
+    }
+    if !sheets && !pairs {
+        println!("DIFFERENCE {} has no file that ends in .sheet or .one", folder.display());
+        differences += 1;
+    }
+    differences
+}
+
 fn main() {
     let words: Vec<String> = std::env::args().skip(1).collect();
     let all = !words.iter().any(|w| PARTS.contains(&w.as_str()));
@@ -53,9 +73,10 @@ fn main() {
         differences += products::run();
         differences += compare::run(times);
         differences += sheet_compare::run(times);
+        differences += join_compare::run(times);
     }
     for folder in words.iter().map(Path::new).filter(|w| w.is_dir()) {
-        differences += sheet_compare::run_folder(folder);
+        differences += run_folder(folder);
     }
     if says("header") {
         differences += header::run();

@@ -1,6 +1,7 @@
 // The time of each call on both sides, on the same valid input, and the ratio.
 use crate::calls;
 use crate::cases::Circuit;
+use crate::joins::{self, JOINED};
 use crate::kinds::{plainly, proved, Case, Kind};
 use crate::numbers::{field, LARGEST};
 use crate::random::Random;
@@ -95,6 +96,23 @@ fn measure_deposit(n: u32, sheet: &[u8]) {
     assert!(answer[0] == 0 && one == other);
 }
 
+// Joining two sheets of n rows each.
+fn measure_join(r: &mut Random, n: u32) {
+    let [first, second] = [0, 1].map(|_| sheet_of(&Circuit::new(r, LARGEST, n)));
+    let mut one = vec![0; JOINED];
+    let mut other = one.clone();
+    let mut answer = [0; 3];
+    measure(
+        "Join",
+        n,
+        &mut || calls::join(black_box(&first), black_box(&second), black_box(&mut one), black_box(&mut answer)),
+        &mut || {
+            black_box(joins::join(black_box(&first), black_box(&second), black_box(&mut other)));
+        },
+    );
+    assert!(answer[0] == 0 && one == other);
+}
+
 fn head(title: &str) {
     println!("\n{title}, p = {LARGEST}, microseconds for one call, best of 15 or more batches");
     println!("{:<12} {:>6} {:>12} {:>12} {:>8}", "call", "n", "proved", "plain", "ratio");
@@ -123,9 +141,12 @@ pub fn run() {
             measure_deposit(n, &sheet);
         }
     }
+    for n in [16, 64, MOST_ROWS / 2] {
+        measure_join(&mut r, n);
+    }
 }
 
-// How the time of `prove` grows with n.
+// How the time of `prove` grows with n, and that of `join`.
 pub fn growth() {
     let mut r = Random::new(1024);
     let (_, most) = field(LARGEST).unwrap();
@@ -133,6 +154,11 @@ pub fn growth() {
     let mut n = 2;
     while n <= most {
         measure_case(&Circuit::proved(&mut r, LARGEST, n).case(&mut r, Kind::Prove));
+        n *= 2;
+    }
+    let mut n = 2;
+    while 2 * n <= MOST_ROWS {
+        measure_join(&mut r, n);
         n *= 2;
     }
 }

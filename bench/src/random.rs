@@ -32,6 +32,15 @@ impl Random {
         (0..count).map(|_| self.word()).collect()
     }
 
+    pub fn bytes(&mut self, count: usize) -> Vec<u8> {
+        let mut all = Vec::with_capacity(count + 8);
+        while all.len() < count {
+            all.extend(self.next().to_le_bytes());
+        }
+        all.truncate(count);
+        all
+    }
+
     pub fn element(&mut self, p: u32) -> u32 {
         (self.next() % p as u64) as u32
     }

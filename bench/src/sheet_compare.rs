@@ -2,47 +2,54 @@
 use crate::calls;
 use crate::cases::Circuit;
 use crate::compare::over;
+use crate::document::SHEET;
 use crate::numbers::{field, PRIMES};
 use crate::random::Random;
 use crate::sheet_cases::{change, noise, sheet_of};
 use crate::sheets::{self, LENGTHS, MOST_ROWS, TEXT};
 use std::collections::BTreeMap;
 use std::hint::black_box;
-use std::path::Path;
+use std::path::{Path, PathBuf};
 
 // Words or bytes around each lent part, which no call may touch.
-const AROUND: usize = 3;
+pub const AROUND: usize = 3;
 
 // The cases tried, those that differ, and how often each number came.
 #[derive(Default)]
-struct Count {
+pub struct Count {
     tried: usize,
-    differences: usize,
+    pub differences: usize,
     answers: BTreeMap<String, usize>,
 }
 
 impl Count {
-    fn add(&mut self, name: &str, answer: String, sheet: &[u8], difference: Option<String>) {
+    pub fn add(&mut self, name: &str, answer: String, sheets: &[&[u8]], difference: Option<String>) {
         self.tried += 1;
         *self.answers.entry(answer).or_insert(0) += 1;
         if let Some(place) = difference {
             self.differences += 1;
-            println!("DIFFERENCE {name}: {place}\n  sheet of {} bytes: \"{}\"", sheet.len(), sheet.escape_ascii());
+            println!("DIFFERENCE {name}: {place}");
+            for sheet in sheets {
+                println!("  sheet of {} bytes: \"{}\"", sheet.len(), sheet.escape_ascii());
+            }
         }
     }
 
-    fn show(&self, name: &str) {
+    pub fn show(&self, name: &str) {
         let answers: Vec<String> = self.answers.iter().map(|(answer, times)| format!("{answer}: {times}")).collect();
         println!("{name:<12} {:>6} cases, {} differences   by answer  {}", self.tried, self.differences, answers.join(", "));
     }
 }
 
-fn inner<T>(all: &mut [T]) -> &mut [T] {
+pub fn inner<T>(all: &mut [T]) -> &mut [T] {
     let end = all.len() - AROUND;
     &mut all[AROUND..end]
 }
 
-fn first_difference<T: PartialEq + std::fmt::Display>(name: &str, ours: &[T], theirs: &[T]) -> Option<String> {
+pub fn first_difference<T: PartialEq + std::fmt::Display>(name: &str, ours: &[T], theirs: &[T]) -> Option<String> {
+    if ours == theirs {
+        return None; // by far the most, and fast
+    }
     let i = ours.iter().zip(theirs).position(|(x, y)| x != y)?;
     Some(format!("{name} of {}, place {}: proved {}, plain {}", ours.len() - 2 * AROUND, i as i64 - AROUND as i64, theirs[i], ours[i]))
 }
@@ -64,7 +71,7 @@ fn try_read(r: &mut Random, sheet: &[u8], lengths: [usize; 5], count: &mut Count
     let names = ["selectors", "labels", "contents", "public numbers", "challenges", "the answer"];
     let difference = (0..6).rev().find_map(|k| first_difference(names[k], &ours[k], &theirs[k]));
     let touched = (black_box(&sheet_lent) != sheet).then(|| "the sheet is changed".to_string());
-    count.add("Read", words[0].to_string(), sheet, difference.or(touched).map(|d| format!("plain answer {words:?}; {d}")));
+    count.add("Read", words[0].to_string(), &[sheet], difference.or(touched).map(|d| format!("plain answer {words:?}; {d}")));
 }
 
 // One deposit on both sides, into a buffer of the given length.
@@ -85,10 +92,11 @@ fn try_deposit(r: &mut Random, sheet: &[u8], length: usize, count: &mut Count) {
     let text = String::from_utf8_lossy(&ours[AROUND..AROUND + words[2] as usize]);
     let last = text.lines().last().unwrap_or("6");
     let kind = last.rsplit_once(',').map_or(last, |(front, _)| front).to_string();
-    count.add("Deposit", kind, sheet, difference.or(touched).map(|d| format!("plain answer {words:?}; {d}")));
+    count.add("Deposit", kind, &[sheet], difference.or(touched).map(|d| format!("plain answer {words:?}; {d}")));
 }
 
-fn wrong(r: &mut Random, length: usize) -> usize {
+// A length that is not the due one.
+pub fn wrong(r: &mut Random, length: usize) -> usize {
     r.pick(&[0, 1, length - 1, length + 1, 2 * length, length / 2])
 }
 
@@ -106,14 +114,14 @@ fn try_sheet(r: &mut Random, sheet: &[u8], reads: &mut Count, deposits: &mut Cou
     try_deposit(r, sheet, length, deposits);
 }
 
-// A sheet of a circuit, a third of them with a fault of the filling, and half of them changed once or more.
-pub fn make(r: &mut Random, p: u32, n: u32) -> Vec<u8> {
+// A sheet of a circuit, a third of them with a fault of the filling; if asked for, changed once or more.
+pub fn one_sheet(r: &mut Random, p: u32, n: u32, changed: bool) -> Vec<u8> {
     let mut circuit = Circuit::new(r, p, n);
     if r.once_in(3) {
         circuit.damage(r);
     }
     let mut sheet = sheet_of(&circuit);
-    if r.once_in(2) {
+    if changed {
         for _ in 0..1 + r.below(2) {
             change(r, &mut sheet, &circuit);
         }
@@ -121,36 +129,43 @@ pub fn make(r: &mut Random, p: u32, n: u32) -> Vec<u8> {
     sheet
 }
 
+// The same, half of them changed.
+pub fn make(r: &mut Random, p: u32, n: u32) -> Vec<u8> {
+    let changed = r.once_in(2);
+    one_sheet(r, p, n, changed)
+}
+
 // Every cut of a sheet, and every byte of it changed to each byte in turn.
-fn all_small(r: &mut Random, sheet: &[u8], reads: &mut Count, deposits: &mut Count) {
+pub fn all_small(sheet: &[u8], mut each: impl FnMut(&[u8])) {
     for end in 0..sheet.len() {
-        try_sheet(r, &sheet[..end], reads, deposits);
+        each(&sheet[..end]);
     }
     for at in 0..sheet.len() {
         for b in 0..=255 {
             let mut changed = sheet.to_vec();
             changed[at] = b;
-            try_sheet(r, &changed, reads, deposits);
+            each(&changed);
             changed.insert(at, sheet[at]);
-            try_sheet(r, &changed, reads, deposits);
+            each(&changed);
         }
     }
+}
+
+// Every prime with every number of rows that its sheets may have.
+pub fn sizes() -> Vec<(u32, u32)> {
+    let rows = |p| (1..).map(|k| 1 << k).take_while(move |&n| n <= field(p).unwrap().1.min(MOST_ROWS));
+    PRIMES.into_iter().flat_map(|p| rows(p).map(move |n| (p, n))).collect()
 }
 
 // Generated sheets of all primes and numbers of rows, and noise. How many cases differ.
 pub fn run(times: usize) -> usize {
     let mut r = Random::new(65536);
     let (mut reads, mut deposits) = (Count::default(), Count::default());
-    all_small(&mut r, crate::document::SHEET, &mut reads, &mut deposits);
-    for p in PRIMES {
-        let (_, most) = field(p).unwrap();
-        let mut n = 2;
-        while n <= most.min(MOST_ROWS) {
-            for _ in 0..times * (400_000 / (n * n) as usize).clamp(150, 3000) {
-                let sheet = make(&mut r, p, n);
-                try_sheet(&mut r, &sheet, &mut reads, &mut deposits);
-            }
-            n *= 2;
+    all_small(SHEET, |sheet| try_sheet(&mut r, sheet, &mut reads, &mut deposits));
+    for (p, n) in sizes() {
+        for _ in 0..times * (400_000 / (n * n) as usize).clamp(150, 3000) {
+            let sheet = make(&mut r, p, n);
+            try_sheet(&mut r, &sheet, &mut reads, &mut deposits);
         }
     }
     for _ in 0..times * 3000 {
@@ -162,16 +177,22 @@ pub fn run(times: usize) -> usize {
     reads.differences + deposits.differences
 }
 
+// The files of a folder that end so.
+pub fn files(folder: &Path, ending: &str) -> Vec<PathBuf> {
+    let all = std::fs::read_dir(folder).expect("a folder that can be read").map(|file| file.unwrap().path());
+    let mut files: Vec<_> = all.filter(|file| file.extension().is_some_and(|e| e == ending)).collect();
+    files.sort();
+    files
+}
+
 // Every file of a folder that ends in .sheet; where a file of that name ends in .out, the text is what it holds.
 pub fn run_folder(folder: &Path) -> usize {
     let mut r = Random::new(1);
     let (mut reads, mut deposits) = (Count::default(), Count::default());
     let mut off = 0;
     let mut outs = 0;
-    let mut files: Vec<_> = std::fs::read_dir(folder).expect("a folder of sheets").map(|file| file.unwrap().path()).collect();
-    files.sort();
-    for file in files.iter().filter(|file| file.extension().is_some_and(|e| e == "sheet")) {
-        let sheet = std::fs::read(file).unwrap();
+    for file in files(folder, "sheet") {
+        let sheet = std::fs::read(&file).unwrap();
         try_read(&mut r, &sheet, LENGTHS, &mut reads);
         try_deposit(&mut r, &sheet, TEXT, &mut deposits);
         if let Ok(out) = std::fs::read(file.with_extension("out")) {

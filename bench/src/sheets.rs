@@ -47,7 +47,7 @@ fn block<'a, const K: usize>(lines: &mut impl Iterator<Item = &'a [u8]>, from: u
 }
 
 // 1 to 5.
-fn parse(sheet: &[u8]) -> Result<Circuit, Refusal> {
+pub fn parse(sheet: &[u8]) -> Result<Circuit, Refusal> {
     if sheet.len() > LONGEST {
         return Err([1, 0]);
     }
@@ -69,14 +69,19 @@ fn parse(sheet: &[u8]) -> Result<Circuit, Refusal> {
     }
 }
 
+// 7, 8 and 14.
+pub fn judge(s: &Circuit) -> Result<(), Refusal> {
+    elements(s.p, &[&s.selectors, &s.contents, &s.publics, &s.challenges])?;
+    labelled(&s.labels)?;
+    bound(s.n as usize, s.l, &s.selectors)
+}
+
 // 1 to 8 and 14, the buffers in their order.
 fn decide(sheet: &[u8], lent: &[&mut [u32]; 5]) -> Result<Circuit, Refusal> {
     let s = parse(sheet)?;
     let due = [0, 1, 2, 3, 4].map(|k| (&*lent[k], LENGTHS[k]));
     lengths(&due).map_err(|[number, place]| [number, place + 1])?; // the sheet is the first buffer
-    elements(s.p, &[&s.selectors, &s.contents, &s.publics, &s.challenges])?;
-    labelled(&s.labels)?;
-    bound(s.n as usize, s.l, &s.selectors)?;
+    judge(&s)?;
     Ok(s)
 }
 

@@ -5,6 +5,8 @@ use crate::calls;
 use crate::cases::Circuit;
 use crate::compare;
 use crate::header::constant;
+use crate::join_compare::{self, Pair};
+use crate::joins::JOINED;
 use crate::kinds::{Case, Kind, KINDS};
 use crate::numbers::{field, LARGEST, PRIMES};
 use crate::random::Random;
@@ -122,6 +124,18 @@ impl Meter {
         let bytes = unsafe { self.depth("deposit", &arguments) };
         (bytes, (answer[0] != 0 || text.starts_with(b"refused")) as u32)
     }
+
+    // Joining two sheets.
+    fn join(&mut self, pair: &Pair) -> (usize, u32) {
+        let mut pair = pair.clone();
+        let mut joined = vec![0u8; JOINED];
+        let mut answer = [0; 3];
+        let mut arguments = Arguments::default();
+        pair.iter_mut().for_each(|sheet| arguments.slice(sheet));
+        arguments.slice(&mut joined);
+        arguments.slice(&mut answer);
+        (unsafe { self.depth("join", &arguments) }, answer[0])
+    }
 }
 
 fn name_of(kind: Kind) -> &'static str {
@@ -193,6 +207,16 @@ fn try_sheets(r: &mut Random, meter: &mut Meter) -> usize {
     show("read", &rows, read) + show("deposit", &rows, deposit)
 }
 
+// Joining two sheets of 128 rows, and further pairs, good and damaged, of 256 rows too, and noise.
+fn try_joins(r: &mut Random, meter: &mut Meter) -> usize {
+    let half = MOST_ROWS / 2;
+    let first = [sheet_of(&largest(r, half)), sheet_of(&largest(r, half))];
+    let mut others: Vec<Pair> = (0..FURTHER).map(|k| join_compare::make(r, LARGEST, [half, MOST_ROWS][k % 2])).collect();
+    others.extend((0..FURTHER).map(|_| join_compare::noisy(r)));
+    let bytes = most("join", &first, &others, |pair| meter.join(pair));
+    show("join", &half.to_string(), bytes)
+}
+
 // How many calls the header says too little of.
 pub fn run() -> usize {
     let mut r = Random::new(512);
@@ -205,5 +229,5 @@ pub fn run() -> usize {
     for kind in KINDS {
         off += try_kind(&mut r, &mut meter, kind, &circuit);
     }
-    off + try_sheets(&mut r, &mut meter)
+    off + try_sheets(&mut r, &mut meter) + try_joins(&mut r, &mut meter)
 }

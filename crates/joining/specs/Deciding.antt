@@ -61,8 +61,8 @@ filled-of s T =
     let last = all-right P (tab (onWitness s n l) (witnessLength n)) _ behind in
     record {
       circuit-right = T .circuit-right;
-      witness-right = record { long = length-tab (onWitness s n l) (witnessLength n); below = all-left P _ _ behind };
-      publics-right = record { long = length-tab (onPublics s n l) l; below = all-left P _ _ last };
+      witness-right = record { long = length-tab (onWitness s n l) (witnessLength n); below = all-left P (tab (onWitness s n l) (witnessLength n)) _ behind };
+      publics-right = record { long = length-tab (onPublics s n l) l; below = all-left P (tab (onPublics s n l) l) _ last };
       challenges-right = record { long = length-tab (onChallenges s n l) 4; below = all-right P (tab (onPublics s n l) l) _ last };
     }
 

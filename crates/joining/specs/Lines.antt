@@ -1,6 +1,6 @@
 -- What the functions that put the joined sheet ask and promise: its lines, read off the tables t and u of the two sheets.
 --
--- sourceAs s                 the row that stands at a row, as the enum of `source`
+-- sourceAs s                 the row that stands at a row, as the enum of `source_of`
 -- Raisable t i raise         line i of a table has 8 numbers whose labels can be raised
 -- Tables n l m t u           two tables of sheets of n rows, with l and m public inputs, that can be joined
 -- lineIn t i k               the k numbers of line i
@@ -58,7 +58,7 @@ publicIn n t i = lineIn t (n + n + suc i) 1
 
 abbrev pub tableText : (p n l m : ℕ) (t u : List ℕ) → List ℕ
 tableText p n l m t u =
-    lineOf (p ∷ 2 * n ∷ l + m ∷ [])
+    lineOf (p ∷ (2 * n) ∷ (l + m) ∷ [])
     ++ (laid (λ i. lineOf (gateIn n l m t u i)) (2 * n)
     ++ (laid (λ i. lineOf (contentsIn n l m t u i)) (2 * n)
     ++ (laid (λ i. lineOf (publicIn n t i)) l

@@ -4,7 +4,6 @@
 -- by-kind            what holds of each kind holds of all 2n rows
 -- Below n s          a row of either sheet, below n
 -- source-below       each row of the joined sheet comes from a row below n
--- both-below         what holds of all rows of each sheet holds of the row that stands at row i
 -- Stands P           there is a row or position of the joined sheet with P, below a bound
 -- one-stands, two-stands   each row of the first stands at some row of the joined sheet, and so does each of the second
 -- joined-position    the number at a column and a row of the joined sheet
@@ -63,16 +62,13 @@ module _ (n l m : ℕ) where
 
 -- a row of either sheet, below n
 abbrev pub Below : ℕ → ℕ ⊎ ℕ → Type 0
-Below n s = fromRow (λ r. r < n) (λ r. r < n) s
+Below n (inl r) = r < n
+Below n (inr r) = r < n
 
 pub record Stands (m : ℕ) (P : ℕ → Type 0) : Type 0 where
   pub at : ℕ
   pub within : at < m
   pub there : P at
-
-pub both-below : {n : ℕ} (P Q : ℕ → Type 0) → ((r : ℕ) → r < n → P r) → ((r : ℕ) → r < n → Q r) → (s : ℕ ⊎ ℕ) → Below n s → fromRow P Q s
-both-below P Q f g (inl r) h = f r h
-both-below P Q f g (inr r) h = g r h
 
 module _ (n l m : ℕ) (few : l ≤ n) (few' : m ≤ n) where
   pub source-below : (i : ℕ) → i < 2 * n → Below n (sourceRow n l m i)

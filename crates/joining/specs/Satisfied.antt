@@ -95,7 +95,7 @@ module _ (p n l m : ℕ) (selectors labels witness publics challenges selectors'
     rowed k = mod-lt k (omega arith)
 
     columned : (k : ℕ) → k < 3 * (2 * n) → k / (2 * n) < 3
-    columned k h = div-lt-iff-lt-mul {x = k} {y = 3} {k = 2 * n} (omega arith) .1 h
+    columned k h = let pos : 0 < 2 * n = omega arith in div-lt-iff-lt-mul {x = k} {y = 3} pos .1 h
 
     -- the position in a column and a row below n
     within : (c r : ℕ) → c < 3 → r < n → position n c r < 3 * n

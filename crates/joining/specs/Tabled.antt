@@ -222,7 +222,7 @@ module _ (one two : List ℕ) (joinable : Joinable (onSheet one) (onSheet two)) 
 
   pub table-text : tableText (sheetP one) rows ones twos t u ≡ joinedText one two
   table-text =
-      ap (λ (a : List ℕ). lineOf (sheetP one ∷ 2 * rows ∷ ones + twos ∷ []) ++ a)
+      ap (λ (a : List ℕ). lineOf (sheetP one ∷ (2 * rows) ∷ (ones + twos) ∷ []) ++ a)
       (ap₂ (λ (a b : List ℕ). a ++ b) (laid-same _ _ (2 * rows) (λ i h. ap lineOf (gate-same i h)))
       (ap₂ (λ (a b : List ℕ). a ++ b) (laid-same _ _ (2 * rows) (λ i h. ap lineOf (contents-same i h)))
       (sym (append-assoc (laid (λ i. lineOf (publicIn rows t i)) ones) (laid (λ i. lineOf (publicIn rows u i)) twos) _)

@@ -27,10 +27,9 @@ pub fn joined_room() -> [u8; 65536]
 pub fn join(one: &[u8], two: &[u8], joined: &mut [u8]) -> Joined
     ensures { λ r. ⌜ Joins (now (one .entry)) (now (two .entry)) (now (joined .entry)) r (now (joined .exit)) ⌝ }
 {
-    let k = 6160;
     let mut first = sheet::table_room();
     let mut second = sheet::table_room();
-    let found = reasons::decide(one, two, joined.len(), &mut first[..k], &mut second[..k]);
+    let found = reasons::decide(one, two, joined.len(), &mut first, &mut second);
     let answer = found.answer;
     let number = answer.number;
     if number != 0 {
@@ -41,8 +40,8 @@ pub fn join(one: &[u8], two: &[u8], joined: &mut [u8]) -> Joined
         found.n,
         found.l,
         found.m,
-        &first[..k],
-        &second[..k],
+        &first,
+        &second,
         joined,
     );
     text::clear(&mut joined[end..]);

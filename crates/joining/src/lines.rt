@@ -7,7 +7,7 @@ ghost use Rattle.text.specs.Text.{lineOf};
 ghost use Rattle.text.specs.Puts.{Puts};
 ghost use Rattle.joining.specs.Lines.{Raisable, Tables, lineIn, raisedIn, gateIn, contentsIn, publicIn, tableText};
 use super::rows::Source;
-use super::rows::source;
+use super::rows::source_of;
 
 // Line i of a table, which has k numbers.
 fn put_words(table: &[u32], i: usize, k: usize, out: &mut [u8], at: usize) -> usize
@@ -60,7 +60,7 @@ fn put_gate(
     requires { ⌜ Tables n l m (now first) (now second) × (i < 2 * n) × (at + 88 ≤ length (now out)) ⌝ }
     ensures { λ r. ⌜ Puts at (lineOf (gateIn n l m (now (first .entry)) (now (second .entry)) i)) (now (out .entry)) r (now (out .exit)) ⌝ }
 {
-    match source(n, l, m, i) {
+    match source_of(n, l, m, i) {
         Source::First(row) => put_words(first, row + 1, 8, out, at),
         Source::Second(row) => put_raised(second, row + 1, 3 * (n as u32), out, at),
     }
@@ -102,7 +102,7 @@ fn put_contents(
     requires { ⌜ Tables n l m (now first) (now second) × (i < 2 * n) × (at + 33 ≤ length (now out)) ⌝ }
     ensures { λ r. ⌜ Puts at (lineOf (contentsIn n l m (now (first .entry)) (now (second .entry)) i)) (now (out .entry)) r (now (out .exit)) ⌝ }
 {
-    match source(n, l, m, i) {
+    match source_of(n, l, m, i) {
         Source::First(row) => put_words(first, n + row + 1, 3, out, at),
         Source::Second(row) => put_words(second, n + row + 1, 3, out, at),
     }

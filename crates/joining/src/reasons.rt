@@ -32,15 +32,15 @@ fn turned_down(answer: Answer) -> Pair
     }
 }
 
-// The reasons of the pair: 15 where the prime or n differ, 3 where the doubled n is too great.
-fn decide_pair(p: u32, n: u32, other_p: u32, other_n: u32) -> Answer
+// The reasons of a pair of sheets, one of n rows over p and one of k rows over q: 15 where they differ, 3 where the doubled n is too great.
+fn decide_pair(p: u32, n: u32, q: u32, k: u32) -> Answer
     requires { ⌜ n ≤ 256 ⌝ }
-    ensures { λ r. ⌜ r ≡ answerOf (pairReasons p n other_p other_n) ⌝ }
+    ensures { λ r. ⌜ r ≡ answerOf (pairReasons p n q k) ⌝ }
 {
-    if p != other_p {
+    if p != q {
         return field::refused(15, 0);
     }
-    if n != other_n {
+    if n != k {
         return field::refused(15, 0);
     }
     if !field::is_rows(p, 2 * n) {

@@ -12,7 +12,7 @@ pub enum Source {
 
 // The row that stands at row i of the joined sheet: the public rows of the first, those of the second, the other rows of the first, those of
 // the second.
-pub fn source(n: usize, l: usize, m: usize, i: usize) -> Source
+pub fn source_of(n: usize, l: usize, m: usize, i: usize) -> Source
     requires { ⌜ (n ≤ 256) × (l ≤ n) × (m ≤ n) ⌝ }
     ensures { λ r. ⌜ r ≡ sourceAs (sourceRow n l m i) ⌝ }
 {

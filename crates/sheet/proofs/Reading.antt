@@ -17,7 +17,7 @@ use Rattle.circuit.specs.Buffers.{selectorsLength, labelsLength, witnessLength}
 use Rattle.sheet.specs.declared.SheetAnswer.{SheetAnswer}
 use Rattle.sheet.specs.Sheet.{sheetRows, sheetN, sheetL, onSelectors, onLabels, onWitness, onPublics, onChallenges, sheetDue}
 use Rattle.sheet.specs.Table.{Full, Room, Laid, selectorsIn, labelsIn, witnessIn, publicsIn, challengesIn}
-use Rattle.sheet.specs.Deciding.{Decides, Taken, taken-of}
+use Rattle.sheet.specs.Deciding.{Decides, found, Taken, taken-of}
 use Rattle.sheet.specs.Promises.{Reads}
 use Rattle.sheet.proofs.BlockLaws.{padded-same}
 use Rattle.sheet.specs.TableLaws.{selectors-same, labels-same, witness-same, publics-same, challenges-same}
@@ -28,10 +28,10 @@ module _ (s selectors labels witness publics challenges : List ℕ) (r : SheetAn
     where
   module _ (zero : r .answer .number ≡ 0) where
     rows : r .n ≡ sheetN s
-    rows = d .n-is ∙ rw (eq-eqb (r .answer .number) 0 zero)
+    rows = found d zero .1
 
     inputs : r .l ≡ sheetL s
-    inputs = d .l-is ∙ rw (eq-eqb (r .answer .number) 0 zero)
+    inputs = found d zero .2
 
     abbrev lengths : Reason
     lengths = badLengths (length s ∷ length selectors ∷ length labels ∷ length witness ∷ length publics ∷ length challenges ∷ []) (sheetDue (length s))

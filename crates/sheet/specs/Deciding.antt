@@ -4,13 +4,14 @@
 -- tableNumbers           the reasons of all its numbers
 -- Opened s p n l at      what is known where no reason of the first line applies: p, n, l, and line 1 starts at `at`
 -- Decides s lengths r t  what deciding promises of its answer r and of the table t, `lengths` being the reasons of a call's lent buffers
+-- found                  p, n and l are those of the sheet, where none applies
 -- first-numbers, read-numbers   no reason of the first line has number 0, and none at all, where none of the lengths has
 -- Taken s                what is known of a sheet where no reason applies
 -- taken-of               an answer with number 0 means that it holds, and that no reason of the lengths applies
 -- own-answer             where no reason of the lengths applies, the answer is that of the sheet's own reasons
 --
 -- Assumes nothing.
-use mathlib.Core.Path.{_≡_, refl}
+use mathlib.Core.Path.{_≡_, refl, _∙_}
 use mathlib.Core.Logic.{_≢_}
 use mathlib.Core.Bool.{cond}
 use mathlib.Core.List.{List, [], _∷_, _++_}
@@ -52,6 +53,12 @@ pub record Decides (s : List ℕ) (lengths : List Reason) (r : SheetAnswer) (t :
   pub n-is : r .n ≡ cond (isAccepted (r .answer)) (sheetN s) 0
   pub l-is : r .l ≡ cond (isAccepted (r .answer)) (sheetL s) 0
   pub held : r .answer .number ≡ 0 → Held s (sheetN s) (sheetL s) (linesDue (sheetN s) (sheetL s)) t
+
+pub found : {s : List ℕ} {lengths : List Reason} {r : SheetAnswer} {t : List ℕ} → Decides s lengths r t → r .answer .number ≡ 0
+    → (r .p ≡ sheetP s) × (r .n ≡ sheetN s) × (r .l ≡ sheetL s)
+found {r = r} D e =
+    let yes = eq-eqb (r .answer .number) 0 e in
+    (D .p-is ∙ rw yes, D .n-is ∙ rw yes, D .l-is ∙ rw yes)
 
 -- WHERE NO REASON APPLIES
 
