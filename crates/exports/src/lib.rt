@@ -14,6 +14,7 @@
 //   guppyspoon_check_opening   0 none, 1 accept, 2 reject
 //   guppyspoon_read            p, n and l
 //   guppyspoon_deposit         the number of bytes of the text
+//   guppyspoon_join            the number of bytes of the joined sheet
 //
 // The answer may have any length. The call is made in any case: of its words as many are written as there is room for, and what stands behind
 // them is left as it was.
@@ -27,8 +28,9 @@ ghost use Rattle.pointcheck.specs.Promises.{PointChecks};
 ghost use Rattle.opening.specs.Promises.{Opens, ChecksOpening};
 ghost use Rattle.prover.specs.Promises.{Proves};
 ghost use Rattle.sheet.specs.Promises.{Reads};
+ghost use Rattle.joining.specs.Joining.{Joins};
 ghost use Rattle.archive.specs.Deposit.{Deposits};
-ghost use Rattle.exports.specs.Answers.{answerWords, invertedWords, rowWords, pointWords, sheetWords, depositedWords, Handed};
+ghost use Rattle.exports.specs.Answers.{answerWords, invertedWords, rowWords, pointWords, sheetWords, depositedWords, joinedWords, Handed};
 
 mod words;
 
@@ -260,5 +262,16 @@ pub extern "C" fn guppyspoon_deposit(sheet: &[u8], text: &mut [u8], answer: &mut
     ensures { λ _. ⌜ Handed depositedWords (λ r. Deposits (now (sheet .entry)) (now (text .entry)) r (now (text .exit))) (now (answer .entry)) (now (answer .exit)) ⌝ }
 {
     let r = archive::deposit(sheet, text);
-    words::put_deposited(r, answer);
+    let a = r.answer;
+    words::put_length(a, r.length, answer);
+}
+
+// `joining::join`: the sheet of two sheets' circuits and what they are filled with.
+#[no_mangle]
+pub extern "C" fn guppyspoon_join(one: &[u8], two: &[u8], joined: &mut [u8], answer: &mut [u32])
+    ensures { λ _. ⌜ Handed joinedWords (λ r. Joins (now (one .entry)) (now (two .entry)) (now (joined .entry)) r (now (joined .exit))) (now (answer .entry)) (now (answer .exit)) ⌝ }
+{
+    let r = joining::join(one, two, joined);
+    let a = r.answer;
+    words::put_length(a, r.length, answer);
 }

@@ -2,9 +2,7 @@
 ghost use mathlib.Core.Path.{_≡_};
 ghost use Prim.Native.Nat.{_≤_};
 ghost use lib.ListN.{set};
-ghost use Rattle.archive.specs.Printed.{textLength};
-ghost use Rattle.exports.specs.Answers.{over, answerWords, isThere, inverseWord, invertedWords, identityWord, verdictWord, verdictRow, rowWords, judgedWord, pointWords, sheetWords, depositedWords};
-use archive::Deposited;
+ghost use Rattle.exports.specs.Answers.{over, answerWords, isThere, inverseWord, invertedWords, identityWord, verdictWord, verdictRow, rowWords, judgedWord, pointWords, sheetWords, lengthWords};
 use field::Answer;
 use field::InverseOf;
 use field::Inverted;
@@ -139,12 +137,11 @@ pub fn put_sheet(r: SheetAnswer, buffer: &mut [u32])
     put(buffer, 4, r.l);
 }
 
-// The number, the detail and the length, which a word has room for.
-pub fn put_deposited(r: Deposited, buffer: &mut [u32])
-    requires { ⌜ r .length ≤ textLength ⌝ }
-    ensures { λ _. ⌜ now (buffer .exit) ≡ over (depositedWords r) (now (buffer .entry)) ⌝ }
+// The number, the detail and the length of what was written, which a word has room for.
+pub fn put_length(r: Answer, length: usize, buffer: &mut [u32])
+    requires { ⌜ length ≤ 65536 ⌝ }
+    ensures { λ _. ⌜ now (buffer .exit) ≡ over (lengthWords r length) (now (buffer .entry)) ⌝ }
 {
-    let a = r.answer;
-    put_answer(a, buffer);
-    put(buffer, 2, r.length as u32);
+    put_answer(r, buffer);
+    put(buffer, 2, length as u32);
 }

@@ -4,16 +4,22 @@
 --                         rows with the public inputs of both; its wiring never leads from one sheet's positions to the other's; and its contents
 --                         satisfy it with its public inputs exactly if those of both sheets did
 -- joined-rightly          THE THEOREM: so it is wherever no reason of `join` applies
+-- join-fits               so the length that `join` answers is within the buffer
 --
 -- Assumes nothing.
-use mathlib.Core.Path.{_≡_}
+use mathlib.Core.Path.{_≡_, refl, sym, ap, _∙_}
+use mathlib.Core.Bool.{Bool, true, false, cond}
 use mathlib.Core.List.{List}
 use Prim.Native.Nat.{ℕ, _+_, _*_, _≤_, _<_}
+use native.Mathlib.Omega.{arith}
 use lib.ListN.{length}
-use Rattle.field.specs.Reasons.{answerOf}
+use borrow.Author.Tests.{eqb-true}
+use Rattle.field.specs.declared.Answer.{Answer}
+use Rattle.field.specs.Reasons.{answerOf, isAccepted}
 use Rattle.circuit.specs.Circuit.{Circuit, permutation}
 use Rattle.sheet.specs.Sheet.{sheetP, sheetN, sheetL, readAnswer}
-use Rattle.joining.specs.Joining.{onSheet, joinedNumbers, joinedText, joinedLength, joinReasons}
+use Rattle.joining.specs.declared.Joined.{Joined}
+use Rattle.joining.specs.Joining.{onSheet, joinedNumbers, joinedText, joinedLength, joinReasons, Joins}
 use Rattle.joining.specs.Deciding.{Joinable, joinable-of}
 use Rattle.joining.specs.Satisfied.{constraintsOf, Right, fromSecond, joined-circuit, wiring-apart, both-of, joined-of}
 use Rattle.joining.specs.Written.{joined-fits, joined-accepted, joined-back}
@@ -41,3 +47,12 @@ joined-rightly one two room e =
       both = both-of (onSheet one) (onSheet two) joinable;
       satisfied = joined-of (onSheet one) (onSheet two) joinable;
     }
+
+pub join-fits : (one two joined : List ℕ) (r : Joined) (joined' : List ℕ) → Joins one two joined r joined' → r .length ≤ joinedLength
+join-fits one two joined r joined' J = go (isAccepted (r .answer)) refl (J .long)
+  where
+    go : (b : Bool) → isAccepted (r .answer) ≡ b → r .length ≡ cond b (length (joinedText one two)) 0 → r .length ≤ joinedLength
+    go true e long =
+        let none = ap (λ (a : Answer). a .number) (sym (J .answer)) ∙ eqb-true (r .answer .number) 0 e in
+        omega (arith, joined-rightly one two (length joined) none .fits)
+    go false e long = omega arith

@@ -1,4 +1,5 @@
 -- `exports::guppyspoon_deposit` meets its contract: the length of a text fits into a word. Assumes nothing.
+use native.Mathlib.Omega.{arith}
 use Rattle.archive.specs.Fits.{deposit-fits}
 use borrow.Author.Needs.{needs}
 use Rattle.exports.proofs.guppyspoon_deposit.Statement.{statement}
@@ -7,8 +8,8 @@ use Rattle.exports.proofs.guppyspoon_deposit.Tie as tie
 deposit-requires : tie.Need-deposit-requires
 deposit-requires c κs = search needs
 
-put-deposited-requires : tie.Need-put-deposited-requires
-put-deposited-requires c κs = deposit-fits _ _ _ _ (c .before .before .before .deposit .ensures)
+put-length-requires : tie.Need-put-length-requires
+put-length-requires c κs = omega (arith, deposit-fits _ _ _ _ (c .before .before .before .before .deposit .ensures))
 
 same-length : tie.Need-same-length
 same-length c = search needs
@@ -21,4 +22,4 @@ returns c = search needs
 
 pub guppyspoon-deposit-spec : {M : Type 1} → statement M
 guppyspoon-deposit-spec =
-    tie.close (tie.spec deposit-requires put-deposited-requires same-length same-length-2 returns)
+    tie.close (tie.spec deposit-requires put-length-requires same-length same-length-2 returns)
