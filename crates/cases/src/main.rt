@@ -1,4 +1,4 @@
-// Runs the public calls at the edges of document 01, and prints what they answer and what they leave in lent memory.
+// Runs the public calls at the edges of document 01 and of the requests after it, and prints what they answer and what they leave in lent memory.
 //
 // One line a case: a label in words, then words and numbers. Each layer's cases are a library of their own.
 fn main() {
@@ -10,4 +10,5 @@ fn main() {
     opening_cases::run();
     prover_cases::run();
     prover_circuits::run();
+    joining_cases::run();
 }

@@ -13,7 +13,7 @@
 -- Assumes nothing.
 use mathlib.Core.Path.{_≡_, refl, sym, ap, _∙_}
 use mathlib.Core.Logic.{_≢_}
-use mathlib.Core.Bool.{Bool, true, false, not, _&&_, _||_, and-eq-true-iff}
+use mathlib.Core.Bool.{not, and-eq-true-iff}
 use mathlib.Core.List.{List, [], _∷_, _++_}
 use Prim.Native.Nat.{ℕ, _*_, _-_, _≤_, _<_}
 use native.Mathlib.Omega.{arith}
@@ -31,7 +31,7 @@ use Rattle.field.specs.Reasons.{Reason, answerOf, badLengths}
 use Rattle.field.specs.ReasonLaws.{none-applies, both-none, refused-first, refused-later}
 use Rattle.circuit.specs.Buffers.{selectorsLength, witnessLength}
 use Rattle.circuit.specs.RightlyLent.{RightCircuit}
-use Rattle.sheet.specs.Sheet.{sheetRows, linesDue, sheetP, sheetN, sheetL, onSelectors, onWitness, onPublics, onChallenges, readReasons, readAnswer}
+use Rattle.sheet.specs.Sheet.{sheetRows, linesDue, sheetP, sheetN, sheetL, onSelectors, onWitness, onPublics, onChallenges, readReasons}
 use Rattle.sheet.specs.Table.{Held}
 use Rattle.sheet.specs.Deciding.{Taken, taken-of, own-answer, read-numbers}
 use Rattle.joining.specs.declared.reasons.Pair.{Pair}

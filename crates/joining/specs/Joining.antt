@@ -4,9 +4,12 @@
 -- Numbers               the numbers of a sheet: p, n and l, and the five buffers as they are lent
 -- onSheet s             those that stand on the sheet s
 -- textOf N              the sheet that is written from them
+-- constraintsOf N, publicOf N, witnessOf N   their constraints, public inputs and wire values
+-- Satisfied N           the wire values satisfy the constraints with the public inputs
 -- sourceRow n l m i     which row stands at row i of the joined sheet, of two sheets of n rows with l and m public inputs: row r of the first (inl r), or
 --                       row r of the second (inr r). The public rows of the first, those of the second, the other rows of the first, those of the second
 -- fromRow f g s         f of a row of the first, g of a row of the second
+-- fromSecond n l m k    position k of the joined sheet comes from the second
 -- joinedAt n l m f g k  the number at position k of the joined sheet, f and g giving those at the positions of the first and of the second
 -- joinedNumbers A B     the numbers of the joined sheet: the labels of the second are raised by 3n, the challenges are those of the first
 -- joinedText one two    the joined sheet
@@ -22,14 +25,14 @@
 -- Assumes nothing.
 use mathlib.Core.Path.{_≡_}
 use mathlib.Core.Logic.{_⊎_, inl, inr}
-use mathlib.Core.Bool.{cond, not, _&&_}
+use mathlib.Core.Bool.{Bool, true, false, cond, not, _&&_}
 use mathlib.Core.List.{List, [], _∷_, _++_}
 use Prim.Native.Nat.{ℕ, _+_, _*_, _-_, _/_, _%_}
 use lib.Dec.{eqb, ltb}
 use lib.ListN.{length, getD, replicate}
 use Rattle.algebra.specs.Lists.{tab}
 use Rattle.field.specs.Reasons.{Reason, answerOf, isAccepted, badRows, badLengths}
-use Rattle.circuit.specs.Circuit.{position, lentWitness, laidWitness}
+use Rattle.circuit.specs.Circuit.{Constraints, position, lentConstraints, lentWitness, laidWitness, lentPublic, Satisfies}
 use Rattle.circuit.specs.Buffers.{selectorsLength, labelsLength, witnessLength}
 use Rattle.sheet.specs.Sheet.{sheetRows, sheetP, sheetN, sheetL, onSelectors, onLabels, onWitness, onPublics, onChallenges, readReasons}
 use Rattle.sheet.specs.Written.{sheetText}
@@ -63,6 +66,18 @@ onSheet s =
 abbrev pub textOf : Numbers → List ℕ
 textOf N = sheetText (N .p) (N .n) (N .l) (N .selectors) (N .labels) (N .witness) (N .publics) (N .challenges)
 
+abbrev pub constraintsOf : Numbers → Constraints
+constraintsOf N = lentConstraints (N .n) (N .selectors) (N .labels)
+
+abbrev pub publicOf : Numbers → ℕ → ℕ
+publicOf N = lentPublic (N .publics)
+
+abbrev pub witnessOf : Numbers → ℕ → ℕ
+witnessOf N = lentWitness (N .n) (N .witness)
+
+abbrev pub Satisfied : Numbers → Type 0
+Satisfied N = Satisfies (N .p) (N .n) (constraintsOf N) (publicOf N) (witnessOf N)
+
 unfoldable pub sourceRow : (n l m i : ℕ) → ℕ ⊎ ℕ
 sourceRow n l m i =
     cond (ltb i l) (inl i) (cond (ltb i (l + m)) (inr (i - l)) (cond (ltb i (n + m)) (inl (i - m)) (inr (i - n))))
@@ -71,7 +86,11 @@ abbrev pub fromRow : {A : Type 0} → (ℕ → A) → (ℕ → A) → ℕ ⊎ �
 fromRow f g (inl r) = f r
 fromRow f g (inr r) = g r
 
--- position k is in column k / 2n and row k % 2n, and its row of either sheet is in that column too
+-- position k is in column k / 2n and row k % 2n
+abbrev pub fromSecond : (n l m k : ℕ) → Bool
+fromSecond n l m k = fromRow (λ r. false) (λ r. true) (sourceRow n l m (k % (2 * n)))
+
+-- a row goes with its columns
 unfoldable pub joinedAt : (n l m : ℕ) (f g : ℕ → ℕ) → ℕ → ℕ
 joinedAt n l m f g k =
     let c : ℕ = k / (2 * n) in

@@ -3,7 +3,8 @@ pub mod Joining
 pub mod Rows
 pub mod Lines
 pub mod Deciding
-pub mod Satisfied
+pub mod Satisfaction
 pub mod Tabled
 pub mod Written
 pub mod Theorem
+pub mod Worked

@@ -9,7 +9,7 @@
 -- found-tables, found-text   both, by the numbers p, n, l and m of a pair that was decided
 --
 -- Assumes nothing.
-use mathlib.Core.Path.{_≡_, refl, sym, ap, ap₂, subst, _∙_}
+use mathlib.Core.Path.{_≡_, refl, sym, ap, ap₂, _∙_}
 use mathlib.Core.Logic.{_⊎_, inl, inr}
 use mathlib.Core.List.{List, [], _∷_, _++_, append-assoc}
 use Prim.Native.Nat.{ℕ, suc, _+_, _*_, _/_, _%_, _≤_, _<_}
@@ -19,7 +19,7 @@ use lib.ListN.{length, getD, List·getD-append}
 use lib.Seq.{getD-append-add}
 use Rattle.algebra.specs.Ends.{run-room}
 use Rattle.algebra.specs.Lists.{tab}
-use Rattle.algebra.specs.Tables.{getD-tab, tab-ext, tab-getD}
+use Rattle.algebra.specs.Tables.{getD-tab, tab-ext}
 use Rattle.field.specs.Primes.{rows-power}
 use Rattle.transform.specs.Parts.{laid}
 use Rattle.circuit.specs.Circuit.{position, lentWitness, laidWitness}
@@ -30,10 +30,10 @@ use Rattle.sheet.specs.Sheet.{linesDue, sheetP, sheetN, sheetL, onSelectors, on
 use Rattle.sheet.specs.Table.{Full, Held}
 use Rattle.sheet.specs.TableLaws.{selectors-same, labels-same, witness-same, publics-same, challenges-same}
 use Rattle.sheet.specs.LaidLines.{laid-split, laid-same}
-use Rattle.sheet.specs.Written.{column, circuitLine, witnessLine, publicLine}
+use Rattle.sheet.specs.Written.{circuitLine, witnessLine, publicLine}
 use Rattle.joining.specs.declared.reasons.Pair.{Pair}
-use Rattle.joining.specs.Joining.{Numbers, onSheet, sourceRow, fromRow, joinedAt, joinedNumbers, joinedText}
-use Rattle.joining.specs.Rows.{Below, source-below, joined-word, joined-position}
+use Rattle.joining.specs.Joining.{Numbers, onSheet, sourceRow, fromRow, joinedNumbers, joinedText}
+use Rattle.joining.specs.Rows.{Below, source-below, joined-word}
 use Rattle.joining.specs.Lines.{Tables, lineIn, raisedIn, gateIn, contentsIn, publicIn, tableText}
 use Rattle.joining.specs.Deciding.{Filled, Joinable, Known}
 

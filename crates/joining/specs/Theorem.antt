@@ -19,9 +19,9 @@ use Rattle.field.specs.Reasons.{answerOf, isAccepted}
 use Rattle.circuit.specs.Circuit.{Circuit, permutation}
 use Rattle.sheet.specs.Sheet.{sheetP, sheetN, sheetL, readAnswer}
 use Rattle.joining.specs.declared.Joined.{Joined}
-use Rattle.joining.specs.Joining.{onSheet, joinedNumbers, joinedText, joinedLength, joinReasons, Joins}
+use Rattle.joining.specs.Joining.{onSheet, constraintsOf, Satisfied, fromSecond, joinedNumbers, joinedText, joinedLength, joinReasons, Joins}
 use Rattle.joining.specs.Deciding.{Joinable, joinable-of}
-use Rattle.joining.specs.Satisfied.{constraintsOf, Right, fromSecond, joined-circuit, wiring-apart, both-of, joined-of}
+use Rattle.joining.specs.Satisfaction.{joined-circuit, wiring-apart, both-of, joined-of}
 use Rattle.joining.specs.Written.{joined-fits, joined-accepted, joined-back}
 
 pub record JoinedRightly (one two : List ℕ) : Type 0 where
@@ -32,8 +32,8 @@ pub record JoinedRightly (one two : List ℕ) : Type 0 where
   pub apart : (k : ℕ) → k < 3 * (2 * sheetN one)
       → fromSecond (sheetN one) (sheetL one) (sheetL two) (permutation (3 * (2 * sheetN one)) (constraintsOf (joinedNumbers (onSheet one) (onSheet two)) .label) k)
       ≡ fromSecond (sheetN one) (sheetL one) (sheetL two) k
-  pub both : Right (joinedNumbers (onSheet one) (onSheet two)) → Right (onSheet one) × Right (onSheet two)
-  pub satisfied : Right (onSheet one) → Right (onSheet two) → Right (joinedNumbers (onSheet one) (onSheet two))
+  pub both : Satisfied (joinedNumbers (onSheet one) (onSheet two)) → Satisfied (onSheet one) × Satisfied (onSheet two)
+  pub satisfied : Satisfied (onSheet one) → Satisfied (onSheet two) → Satisfied (joinedNumbers (onSheet one) (onSheet two))
 
 pub joined-rightly : (one two : List ℕ) (room : ℕ) → answerOf (joinReasons one two room) .number ≡ 0 → JoinedRightly one two
 joined-rightly one two room e =

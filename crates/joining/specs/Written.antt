@@ -5,18 +5,17 @@
 -- joined-back      and gives the joined numbers
 --
 -- Assumes nothing.
-use mathlib.Core.Path.{_≡_, sym, ap, subst, _∙_}
+use mathlib.Core.Path.{_≡_}
 use mathlib.Core.Logic.{_⊎_, inl, inr}
-use mathlib.Core.List.{List, [], _∷_, _++_}
-use Prim.Native.Nat.{ℕ, _+_, _*_, _/_, _%_, _≤_, _<_}
+use mathlib.Core.List.{List}
+use Prim.Native.Nat.{ℕ, _*_, _/_, _%_, _≤_, _<_}
 use native.Mathlib.Nat.{mod-lt, div-lt-iff-lt-mul}
 use native.Mathlib.Omega.{arith}
-use lib.ListN.{length, getD, length-append}
+use lib.ListN.{length, length-append}
 use Rattle.algebra.specs.Ends.{run-room}
 use Rattle.algebra.specs.Lists.{All}
 use Rattle.algebra.specs.Polynomial.{Elements}
 use Rattle.algebra.specs.Tables.{length-tab, all-append, all-getD, all-of}
-use Rattle.field.specs.Fields.{isField}
 use Rattle.field.specs.Primes.{by-field, rows-power}
 use Rattle.circuit.specs.Circuit.{position, lentWitness}
 use Rattle.circuit.specs.Buffers.{witnessLength}
@@ -28,8 +27,8 @@ use Rattle.sheet.specs.Fits.{sheet-long}
 use Rattle.sheet.specs.ReadBack.{SheetBack, sheet-back, Admitted, sheet-taken}
 use Rattle.joining.specs.Joining.{Numbers, onSheet, textOf, sourceRow, joinedAt, fromRow, joinedNumbers, joinedLength}
 use Rattle.joining.specs.Rows.{Below, source-below}
-use Rattle.joining.specs.Deciding.{Filled, Joinable}
-use Rattle.joining.specs.Satisfied.{joined-circuit}
+use Rattle.joining.specs.Deciding.{Joinable}
+use Rattle.joining.specs.Satisfaction.{joined-circuit}
 
 -- elements of a prime below 2^32 are below 2^32
 small : (p : ℕ) (xs : List ℕ) → p ≤ 4294967296 → All (λ (x : ℕ). x < p) xs → Small xs

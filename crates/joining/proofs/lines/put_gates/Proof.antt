@@ -1,6 +1,5 @@
 -- `joining::lines::put_gates` meets its contract: after i turns the first i lines are put. Assumes nothing.
 use mathlib.Core.Path.{_≡_, subst}
-use mathlib.Core.List.{List}
 use Prim.Native.Nat.{ℕ, _*_, _-_, _≤_}
 use native.Mathlib.Omega.{arith}
 use lib.ListN.{length}

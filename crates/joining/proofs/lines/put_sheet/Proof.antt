@@ -119,25 +119,25 @@ put-publics-requires-2 c κs =
 add-put-words : tie.Need-add-put-words
 add-put-words c =
     let P = start (line (gates (witness (publics (c .before .before))))) .pre .0 in
-    omega (arith, P .few, P .one-few)
+    omega (arith, P .few, P .one-few, P .two-few)
 
 add-put-words-2 : tie.Need-add-put-words-2
 add-put-words-2 c =
     let P = start (line (gates (witness (publics (c .before .before))))) .pre .0 in
-    omega (arith, P .few, P .one-few)
+    omega (arith, P .few, P .one-few, P .two-few)
 
 add-put-words-3 : tie.Need-add-put-words-3
 add-put-words-3 c =
     let P = start (line (gates (witness (publics (c .before .before))))) .pre .0 in
-    omega (arith, P .few, P .one-few)
+    omega (arith, P .few, P .one-few, P .two-few)
 
 put-words-requires : tie.Need-put-words-requires
 put-words-requires c κs =
     let d = c .before .before .before in
     let P = start (line (gates (witness (publics d)))) .pre .0 in (
       omega arith,
-      omega (arith, P .few, P .one-few, P .one-long),
-      P .one-long,
+      omega (arith, P .few, P .one-few, P .two-few, P .one-long, P .two-long),
+      omega (arith, P .one-long, P .two-long),
       omega (arith, others-far d .0, others-far d .1, P .few, P .one-few, P .two-few),
     )
 

@@ -1,8 +1,7 @@
 -- `joining::lines::put_words` meets its contract: the part of the table is the line. Assumes nothing.
-use mathlib.Core.Path.{subst, ap}
+use mathlib.Core.Path.{subst}
 use mathlib.Core.List.{List}
 use Prim.Native.Nat.{ℕ}
-use native.Mathlib.Omega.{arith}
 use borrow.Author.Needs.{needs}
 use Rattle.text.specs.Text.{lineOf}
 use Rattle.text.specs.Puts.{Puts}

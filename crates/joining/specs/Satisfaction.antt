@@ -1,51 +1,30 @@
 -- The joined circuit: that it is one, that its wiring keeps the two sheets apart, and that it is satisfied exactly if both are.
 --
--- constraintsOf N, publicOf N, witnessOf N   the constraints, public inputs and wire values of a sheet's numbers
--- Right N              the witness of N satisfies its constraints with its public inputs
--- fromSecond n l m k   position k of the joined sheet comes from the second
--- FOR TWO SHEETS THAT CAN BE JOINED
 -- joined-circuit       the joined constraints are a circuit, of 2n rows with the public inputs of both
 -- wiring-apart         the joined wiring never leads from one sheet's positions to the other's
 -- both-of, joined-of   the joined contents satisfy the joined circuit with the joined public inputs exactly if both did
 --
 -- Assumes nothing.
-use mathlib.Core.Path.{_≡_, refl, sym, ap, ap₂, subst, _∙_}
+use mathlib.Core.Path.{_≡_, refl, sym, ap, subst, _∙_}
 use mathlib.Core.Logic.{_⊎_, inl, inr}
-use mathlib.Core.Bool.{Bool, true, false, true≢false}
+use mathlib.Core.Bool.{true, false, true≢false}
 use mathlib.Core.List.{List, _++_}
-use Prim.Native.Nat.{ℕ, _+_, _*_, _-_, _/_, _%_, _≤_, _<_, pred}
+use Prim.Native.Nat.{ℕ, _+_, _*_, _/_, _%_, _≤_, _<_, pred}
 use native.Mathlib.Nat.{mod-lt, div-lt-iff-lt-mul}
 use native.Mathlib.Omega.{arith}
 use lib.Dec.{leb}
-use lib.ListN.{length, getD, length-append, List·getD-append, List·getD-eq-default}
+use lib.ListN.{getD, length-append, List·getD-append, List·getD-eq-default}
 use lib.Seq.{getD-append-add}
 use borrow.Author.Tests.{le-leb, lt-leb}
 use Rattle.algebra.specs.Ends.{run-room}
 use Rattle.algebra.specs.Tables.{getD-tab}
 use Rattle.field.specs.Primes.{rows-power}
-use Rattle.circuit.specs.Circuit.{Constraints, Circuit, position, isPublic, isPublicRow, lentConstraints, lentWitness, lentPublic, permutation, gate, Satisfies}
+use Rattle.circuit.specs.Circuit.{Circuit, position, isPublic, isPublicRow, permutation, gate}
 use Rattle.circuit.specs.Permutation.{permutation-perm, permutation-label}
-use Rattle.circuit.specs.RightlyLent.{RightCircuit}
 use Rattle.circuit.specs.Witness.{lent-laid}
-use Rattle.joining.specs.Joining.{Numbers, sourceRow, fromRow, joinedAt, joinedNumbers}
+use Rattle.joining.specs.Joining.{Numbers, constraintsOf, publicOf, witnessOf, Satisfied, sourceRow, fromRow, fromSecond, joinedAt, joinedNumbers}
 use Rattle.joining.specs.Rows.{source-one, source-two, source-three, source-four, by-kind, Below, source-below, Stands, one-stands, two-stands, joined-word, joined-position, at-one, at-two}
 use Rattle.joining.specs.Deciding.{Filled, Joinable}
-
-abbrev pub constraintsOf : Numbers → Constraints
-constraintsOf N = lentConstraints (N .n) (N .selectors) (N .labels)
-
-abbrev pub publicOf : Numbers → ℕ → ℕ
-publicOf N = lentPublic (N .publics)
-
-abbrev pub witnessOf : Numbers → ℕ → ℕ
-witnessOf N = lentWitness (N .n) (N .witness)
-
-abbrev pub Right : Numbers → Type 0
-Right N = Satisfies (N .p) (N .n) (constraintsOf N) (publicOf N) (witnessOf N)
-
--- a position of the joined sheet comes from the second
-abbrev pub fromSecond : (n l m k : ℕ) → Bool
-fromSecond n l m k = fromRow (λ r. false) (λ r. true) (sourceRow n l m (k % (2 * n)))
 
 -- a gate, from what stands in its row
 abbrev gateOf : (p qL qR qO qM qC a b c x : ℕ) → ℕ
@@ -255,7 +234,7 @@ module _ (p n l m : ℕ) (selectors labels witness publics challenges selectors'
           );
         }
 
-    agree : Right J → (v label : ℕ → ℕ) → ((k : ℕ) → k < 3 * n → At v label k) → (j k : ℕ) → j < 3 * n → k < 3 * n → label j ≡ label k → v j ≡ v k
+    agree : Satisfied J → (v label : ℕ → ℕ) → ((k : ℕ) → k < 3 * n → At v label k) → (j k : ℕ) → j < 3 * n → k < 3 * n → label j ≡ label k → v j ≡ v k
     agree S v label at j k h g e =
         let a = at j h in
         let b = at k g in
@@ -264,7 +243,7 @@ module _ (p n l m : ℕ) (selectors labels witness publics challenges selectors'
     abbrev gates : ℕ ⊎ ℕ → ℕ
     gates t = fromRow (gate p n (constraintsOf A) (publicOf A) (witnessOf A)) (gate p n (constraintsOf B) (publicOf B) (witnessOf B)) t
 
-    both-right : Right J → Right A × Right B
+    both-right : Satisfied J → Satisfied A × Satisfied B
     both-right S = (
       record {
         gates = λ r h.
@@ -280,7 +259,7 @@ module _ (p n l m : ℕ) (selectors labels witness publics challenges selectors'
       },
     )
 
-    joined-satisfied : Right A → Right B → Right J
+    joined-satisfied : Satisfied A → Satisfied B → Satisfied J
     unfolding joinedAt
     joined-satisfied S T =
         record {
@@ -333,12 +312,12 @@ module _ (A B : Numbers) (joinable : Joinable A B) where
       carried (λ B. (k : ℕ) → k < 3 * (2 * A .n) → fromSecond (A .n) (A .l) (B .l) (permutation (3 * (2 * A .n)) (constraintsOf (joinedNumbers A B) .label) k) ≡ fromSecond (A .n) (A .l) (B .l) k)
       (λ two. apart (A .p) (A .n) (A .l) (B .l) (A .selectors) (A .labels) (A .witness) (A .publics) (A .challenges) (B .selectors) (B .labels) (B .witness) (B .publics) (B .challenges) (joinable .one) two some)
 
-  pub both-of : Right (joinedNumbers A B) → Right A × Right B
+  pub both-of : Satisfied (joinedNumbers A B) → Satisfied A × Satisfied B
   both-of =
-      carried (λ B. Right (joinedNumbers A B) → Right A × Right B)
+      carried (λ B. Satisfied (joinedNumbers A B) → Satisfied A × Satisfied B)
       (λ two. both-right (A .p) (A .n) (A .l) (B .l) (A .selectors) (A .labels) (A .witness) (A .publics) (A .challenges) (B .selectors) (B .labels) (B .witness) (B .publics) (B .challenges) (joinable .one) two some)
 
-  pub joined-of : Right A → Right B → Right (joinedNumbers A B)
+  pub joined-of : Satisfied A → Satisfied B → Satisfied (joinedNumbers A B)
   joined-of =
-      carried (λ B. Right A → Right B → Right (joinedNumbers A B))
+      carried (λ B. Satisfied A → Satisfied B → Satisfied (joinedNumbers A B))
       (λ two. joined-satisfied (A .p) (A .n) (A .l) (B .l) (A .selectors) (A .labels) (A .witness) (A .publics) (A .challenges) (B .selectors) (B .labels) (B .witness) (B .publics) (B .challenges) (joinable .one) two some)

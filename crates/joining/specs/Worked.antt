@@ -1,0 +1,96 @@
+-- Document 01's worked sheet joined to the same with row 0 made a public row: the definitions make of both what document 02 says.
+--
+-- second       the second sheet: its challenges begin with 3, to tell them from the first's
+-- over97       the first sheet over the prime 97
+-- joinedBytes  the joined sheet, written by hand
+-- Worked, worked   the joined sheet, its rows, and the answers to this pair and to pairs near it; that they are so
+--
+-- Assumes nothing.
+use mathlib.Core.Path.{_≡_, refl}
+use mathlib.Core.Logic.{inl, inr}
+use mathlib.Core.Bool.{true, false}
+use mathlib.Core.List.{List, [], _∷_}
+use Prim.Native.Nat.{ℕ}
+use lib.Count.{ones}
+use lib.ListN.{drop}
+use Rattle.algebra.specs.Lists.{tab}
+use Rattle.algebra.specs.Modular.{first}
+use Rattle.field.specs.Fields.{isField, isRows, greatestRows}
+use Rattle.field.specs.Reasons.{answerOf, firstOther, firstAbove}
+use Rattle.transform.specs.Parts.{laid}
+use Rattle.circuit.specs.Circuit.{lentWitness, laidWitness}
+use Rattle.circuit.specs.Reasons.{unboundRow}
+use Rattle.text.specs.Text.{isDigit, digitsEnd, valueOf, isNumberAt, numberAt, fieldAt, isFieldAt, isLineAt, decimalOf, fieldsText, fieldsOf}
+use Rattle.sheet.specs.Sheet.{fieldsDue, lineAt, numberOf, badLine}
+use Rattle.sheet.specs.Worked.{bytes, without, with, changed}
+use Rattle.joining.specs.Joining.{onSheet, sourceRow, fromSecond, joinedAt, joinedNumbers, joinedText, joinReasons}
+
+abbrev pub second : List ℕ
+second = changed 55 51
+
+abbrev pub over97 : List ℕ
+over97 = 57 ∷ drop 1 bytes
+
+-- 17,4,1: the public row of the second; the two rows of the first; the other row of the second; the wire values in the same order
+abbrev pub joinedBytes : List ℕ
+joinedBytes =
+    49 ∷ 55 ∷ 44 ∷ 52 ∷ 44 ∷ 49 ∷ 10
+    ∷ 49 ∷ 44 ∷ 48 ∷ 44 ∷ 48 ∷ 44 ∷ 48 ∷ 44 ∷ 48 ∷ 44 ∷ 54 ∷ 44 ∷ 55 ∷ 44 ∷ 56 ∷ 10
+    ∷ 48 ∷ 44 ∷ 48 ∷ 44 ∷ 49 ∷ 54 ∷ 44 ∷ 49 ∷ 44 ∷ 48 ∷ 44 ∷ 48 ∷ 44 ∷ 49 ∷ 44 ∷ 50 ∷ 10
+    ∷ 49 ∷ 44 ∷ 49 ∷ 44 ∷ 49 ∷ 54 ∷ 44 ∷ 48 ∷ 44 ∷ 48 ∷ 44 ∷ 50 ∷ 44 ∷ 50 ∷ 44 ∷ 51 ∷ 10
+    ∷ 49 ∷ 44 ∷ 49 ∷ 44 ∷ 49 ∷ 54 ∷ 44 ∷ 48 ∷ 44 ∷ 48 ∷ 44 ∷ 56 ∷ 44 ∷ 56 ∷ 44 ∷ 57 ∷ 10
+    ∷ 50 ∷ 44 ∷ 51 ∷ 44 ∷ 54 ∷ 10
+    ∷ 50 ∷ 44 ∷ 51 ∷ 44 ∷ 54 ∷ 10
+    ∷ 54 ∷ 44 ∷ 54 ∷ 44 ∷ 49 ∷ 50 ∷ 10
+    ∷ 54 ∷ 44 ∷ 54 ∷ 44 ∷ 49 ∷ 50 ∷ 10
+    ∷ 50 ∷ 10
+    ∷ 49 ∷ 44 ∷ 49 ∷ 44 ∷ 50 ∷ 44 ∷ 50 ∷ 10
+    ∷ []
+
+pub record Worked : Type 0 where
+  pub row-0 : sourceRow 2 0 1 0 ≡ inr 0
+  pub row-1 : sourceRow 2 0 1 1 ≡ inl 0
+  pub row-2 : sourceRow 2 0 1 2 ≡ inl 1
+  pub row-3 : sourceRow 2 0 1 3 ≡ inr 1
+  -- position 5 is column b of row 1, position 4 column b of row 0
+  pub of-first : fromSecond 2 0 1 5 ≡ false
+  pub of-second : fromSecond 2 0 1 4 ≡ true
+  pub labels : joinedNumbers (onSheet bytes) (onSheet second) .labels ≡ 6 ∷ 0 ∷ 2 ∷ 8 ∷ 7 ∷ 1 ∷ 2 ∷ 8 ∷ 8 ∷ 2 ∷ 3 ∷ 9 ∷ []
+  pub witness : joinedNumbers (onSheet bytes) (onSheet second) .witness ≡ 2 ∷ 2 ∷ 6 ∷ 6 ∷ 3 ∷ 3 ∷ 6 ∷ 6 ∷ 6 ∷ 6 ∷ 12 ∷ 12 ∷ []
+  pub text : joinedText bytes second ≡ joinedBytes
+  pub taken : answerOf (joinReasons bytes second 65536) ≡ record { number = 0; detail = 0 }
+  -- the written buffer is one byte too short, behind a 5 of the first sheet, and before its 8
+  pub short : answerOf (joinReasons bytes second 65535) ≡ record { number = 6; detail = 3 }
+  pub line-first : answerOf (joinReasons (without 61) second 65535) ≡ record { number = 5; detail = 6 }
+  pub short-first : answerOf (joinReasons (with 39 (49 ∷ [])) second 65535) ≡ record { number = 6; detail = 3 }
+  -- the first sheet's 8 comes before the second's 1, and that before 15
+  pub label-first : answerOf (joinReasons (with 39 (49 ∷ [])) [] 65536) ≡ record { number = 8; detail = 5 }
+  pub unread-first : answerOf (joinReasons bytes [] 65536) ≡ record { number = 1; detail = 0 }
+  -- another prime; another n, though the doubled n is too great as well; and the doubled n alone
+  pub other-prime : answerOf (joinReasons bytes over97 65536) ≡ record { number = 15; detail = 0 }
+  pub other-rows : answerOf (joinReasons joinedBytes bytes 65536) ≡ record { number = 15; detail = 0 }
+  pub many-rows : answerOf (joinReasons joinedBytes joinedBytes 65536) ≡ record { number = 3; detail = 0 }
+
+pub worked : Worked
+unfolding tab first isDigit digitsEnd valueOf isNumberAt numberAt fieldAt isFieldAt isLineAt fieldsDue lineAt numberOf badLine isField isRows greatestRows firstOther firstAbove unboundRow laid decimalOf fieldsText fieldsOf ones lentWitness laidWitness sourceRow joinedAt
+worked =
+    record {
+      row-0 = refl;
+      row-1 = refl;
+      row-2 = refl;
+      row-3 = refl;
+      of-first = refl;
+      of-second = refl;
+      labels = refl;
+      witness = refl;
+      text = refl;
+      taken = refl;
+      short = refl;
+      line-first = refl;
+      short-first = refl;
+      label-first = refl;
+      unread-first = refl;
+      other-prime = refl;
+      other-rows = refl;
+      many-rows = refl;
+    }
