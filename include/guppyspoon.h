@@ -94,7 +94,7 @@ extern "C" {
 #define GUPPYSPOON_PROVE_STACK 245760
 #define GUPPYSPOON_READ_STACK 32768
 #define GUPPYSPOON_DEPOSIT_STACK 294912
-#define GUPPYSPOON_JOIN_STACK 122880
+#define GUPPYSPOON_JOIN_STACK 57344
 
 /* Word 0 of an answer: accepted, or the first of the call's reasons, in the order in which they are named at the call, that applies. Word 1 is the
  * detail, 0 unless named here. */

@@ -35,15 +35,7 @@ pub fn join(one: &[u8], two: &[u8], joined: &mut [u8]) -> Joined
     if number != 0 {
         return Joined { answer, length: 0 };
     }
-    let end = lines::put_sheet(
-        found.p,
-        found.n,
-        found.l,
-        found.m,
-        &first,
-        &second,
-        joined,
-    );
+    let end = lines::put_sheet(found.p, found.n, found.l, found.m, &first, &second, joined);
     text::clear(&mut joined[end..]);
     Joined {
         answer,

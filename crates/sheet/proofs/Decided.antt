@@ -28,7 +28,7 @@ use Rattle.field.specs.Reasons.{Reason, answerOf, shapeReasons, badLengths}
 use Rattle.field.specs.ReasonLaws.{none-applies, refused-later}
 use Rattle.text.specs.Text.{numberAt, fieldAt, isLineAt}
 use Rattle.sheet.specs.declared.SheetAnswer.{SheetAnswer}
-use Rattle.sheet.specs.Sheet.{sheetRows, sheetP, sheetN, sheetL, linesDue, lineAt, badLine, firstReasons, lineReasons, sheetDue, sheetNumbers, behindReasons, readReasons}
+use Rattle.sheet.specs.Sheet.{sheetRows, sheetP, sheetN, sheetL, linesDue, lineAt, badLine, firstReasons, lineReasons, sheetDue, sheetLengths, sheetNumbers, behindReasons, readReasons}
 use Rattle.sheet.specs.Table.{Held, Full, Begins, Room}
 use Rattle.sheet.specs.Deciding.{tableNumbers, Opened, Decides, first-numbers}
 use Rattle.sheet.proofs.LineLaws.{second-start}
@@ -125,7 +125,7 @@ module _ (s : List ℕ) (lengths : List Reason) (a : Answer) (is : a ≡ answerO
       }
 
 pub roomy : (s selectors labels witness publics challenges : List ℕ)
-    → answerOf (badLengths (length s ∷ length selectors ∷ length labels ∷ length witness ∷ length publics ∷ length challenges ∷ []) (sheetDue (length s)) ∷ []) .number ≡ 0
+    → answerOf (sheetLengths s (length selectors) (length labels) (length witness) (length publics) (length challenges) ∷ []) .number ≡ 0
     → Room selectors labels witness publics challenges
 roomy s selectors labels witness publics challenges e =
     let long : List ℕ = length s ∷ length selectors ∷ length labels ∷ length witness ∷ length publics ∷ length challenges ∷ [] in

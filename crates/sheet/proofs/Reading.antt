@@ -12,10 +12,10 @@ use Prim.Native.Nat.{ℕ}
 use native.Mathlib.Omega.{arith}
 use lib.ListN.{length}
 use borrow.Author.Tests.{eq-eqb, ne-eqb}
-use Rattle.field.specs.Reasons.{Reason, answerOf, badLengths}
+use Rattle.field.specs.Reasons.{Reason, answerOf}
 use Rattle.circuit.specs.Buffers.{selectorsLength, labelsLength, witnessLength}
 use Rattle.sheet.specs.declared.SheetAnswer.{SheetAnswer}
-use Rattle.sheet.specs.Sheet.{sheetRows, sheetN, sheetL, onSelectors, onLabels, onWitness, onPublics, onChallenges, sheetDue}
+use Rattle.sheet.specs.Sheet.{sheetRows, sheetN, sheetL, onSelectors, onLabels, onWitness, onPublics, onChallenges, sheetLengths}
 use Rattle.sheet.specs.Table.{Full, Room, Laid, selectorsIn, labelsIn, witnessIn, publicsIn, challengesIn}
 use Rattle.sheet.specs.Deciding.{Decides, found, Taken, taken-of}
 use Rattle.sheet.specs.Promises.{Reads}
@@ -24,8 +24,7 @@ use Rattle.sheet.specs.TableLaws.{selectors-same, labels-same, witness-s
 use Rattle.sheet.proofs.Decided.{full-of, roomy}
 
 module _ (s selectors labels witness publics challenges : List ℕ) (r : SheetAnswer) (t : List ℕ)
-    (d : Decides s (badLengths (length s ∷ length selectors ∷ length labels ∷ length witness ∷ length publics ∷ length challenges ∷ []) (sheetDue (length s)) ∷ []) r t)
-    where
+    (d : Decides s (sheetLengths s (length selectors) (length labels) (length witness) (length publics) (length challenges) ∷ []) r t) where
   module _ (zero : r .answer .number ≡ 0) where
     rows : r .n ≡ sheetN s
     rows = found d zero .1
@@ -34,7 +33,7 @@ module _ (s selectors labels witness publics challenges : List ℕ) (r : SheetAn
     inputs = found d zero .2
 
     abbrev lengths : Reason
-    lengths = badLengths (length s ∷ length selectors ∷ length labels ∷ length witness ∷ length publics ∷ length challenges ∷ []) (sheetDue (length s))
+    lengths = sheetLengths s (length selectors) (length labels) (length witness) (length publics) (length challenges)
 
     taken : Taken s × (answerOf (lengths ∷ []) .number ≡ 0)
     taken = taken-of s (lengths ∷ []) (omega arith, tt) (ap (λ a. a .number) (sym (d .answer)) ∙ zero)

@@ -22,7 +22,8 @@
 -- sheetNumbers         of the elements, labels and public rows, as they are lent
 -- behindReasons        all reasons behind those of the first line; `lengths` are those of a call's lent buffers, which stand between the lines and the numbers
 -- readReasons s lengths   all reasons of a call that reads the sheet s
--- sheetReasons         those of `read`, for the lengths of the five lent buffers
+-- sheetLengths         6 of `read`, for the lengths of the five lent buffers
+-- sheetReasons         all reasons of `read`
 -- readAnswer s         the answer of the sheet's own reasons: of reading it into buffers of the lengths due
 --
 -- Assumes nothing.
@@ -130,9 +131,12 @@ behindReasons s p n l lengths = lineReasons s n l ++ (lengths ++ sheetNumbers s 
 abbrev pub readReasons : (s : List ℕ) (lengths : List Reason) → List Reason
 readReasons s lengths = firstReasons s ++ behindReasons s (sheetP s) (sheetN s) (sheetL s) lengths
 
+abbrev pub sheetLengths : (s : List ℕ) (selectors labels witness publics challenges : ℕ) → Reason
+sheetLengths s selectors labels witness publics challenges =
+    badLengths (length s ∷ selectors ∷ labels ∷ witness ∷ publics ∷ challenges ∷ []) (sheetDue (length s))
+
 abbrev pub sheetReasons : (s : List ℕ) (selectors labels witness publics challenges : ℕ) → List Reason
-sheetReasons s selectors labels witness publics challenges =
-    readReasons s (badLengths (length s ∷ selectors ∷ labels ∷ witness ∷ publics ∷ challenges ∷ []) (sheetDue (length s)) ∷ [])
+sheetReasons s selectors labels witness publics challenges = readReasons s (sheetLengths s selectors labels witness publics challenges ∷ [])
 
 abbrev pub readAnswer : List ℕ → Answer
 readAnswer s = answerOf (readReasons s [])

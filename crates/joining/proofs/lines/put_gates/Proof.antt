@@ -36,7 +36,6 @@ put-gate-requires c κs =
       omega (arith, s .pre .1, loop .inv .1 .place, loop .inv .2, laid-long (λ i. lineOf (gateIn (a .n) (a .l) (a .m) (a .first .now) (a .second .now) i)) 88 (loop .i) (λ i h. gate-long (a .n) (a .l) (a .m) (a .first .now) (a .second .now) i)),
     )
 
-
 add-i : tie.Need-add-i Inv-loop μ-loop
 add-i c = search needs
 

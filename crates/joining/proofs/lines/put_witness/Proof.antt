@@ -36,7 +36,6 @@ put-contents-requires c κs =
       omega (arith, s .pre .1, loop .inv .1 .place, loop .inv .2, laid-long (λ i. lineOf (contentsIn (a .n) (a .l) (a .m) (a .first .now) (a .second .now) i)) 33 (loop .i) (λ i h. contents-long (a .n) (a .l) (a .m) (a .first .now) (a .second .now) i)),
     )
 
-
 add-i : tie.Need-add-i Inv-loop μ-loop
 add-i c = search needs
 
