@@ -23,7 +23,8 @@ use Rattle.algebra.specs.Lists.{tab}
 use Rattle.algebra.specs.Tables.{length-tab, tab-ext, tab-getD}
 use Rattle.transform.specs.Parts.{laid}
 use Rattle.text.specs.Text.{lineOf}
-use Rattle.text.specs.Puts.{Puts, puts-none, puts-both, length-numbers}
+use Rattle.text.specs.Puts.{Puts, puts-none, puts-both}
+use Rattle.sheet.specs.Fits.{line-long}
 use Rattle.joining.specs.declared.rows.Source.{Source}
 use Rattle.joining.specs.declared.rows.Source.the-variants.{First, Second}
 use Rattle.joining.specs.Joining.{sourceRow, fromRow}
@@ -108,9 +109,6 @@ pub public-is : (n : ℕ) (t : List ℕ) (i : ℕ) → lineIn t (n + n + i + 1) 
 public-is n t i = let q : n + n + i + 1 ≡ n + n + suc i = omega arith in ap (λ (k : ℕ). lineIn t k 1) q
 
 -- HOW LONG A LINE IS
-
-line-long : (vs : List ℕ) (k : ℕ) → length vs ≡ k → 0 < k → length (lineOf vs) ≤ 11 * k
-line-long vs k e h = omega (arith, length-numbers vs (omega arith))
 
 pub gate-long : (n l m : ℕ) (t u : List ℕ) (i : ℕ) → length (lineOf (gateIn n l m t u i)) ≤ 88
 gate-long n l m t u i = go (sourceRow n l m i)

@@ -16,9 +16,6 @@ pub struct Pair {
     pub m: usize,
 }
 
-// The greatest number of rows on a sheet.
-const ROWS: u32 = 256;
-
 // A refusal.
 fn turned_down(answer: Answer) -> Pair
     ensures { λ r. ⌜ r .answer ≡ answer ⌝ }
@@ -46,7 +43,7 @@ fn decide_pair(p: u32, n: u32, q: u32, k: u32) -> Answer
     if !field::is_rows(p, 2 * n) {
         return field::refused(3, 0);
     }
-    if ROWS < 2 * n {
+    if sheet::ROWS < 2 * n {
         return field::refused(3, 0);
     }
     field::accepted()

@@ -1,6 +1,7 @@
 -- How long a sheet is that is written from numbers.
 --
 -- circuit-long   a gate line has 8 numbers
+-- line-long      a line of k numbers has at most 11 bytes for each
 -- sheet-long     a number has at most 10 digits, so a row of both kinds of lines has at most 121 bytes, and a public input at most 11
 --
 -- Assumes nothing.
@@ -20,8 +21,7 @@ use Rattle.sheet.specs.LaidLines.{laid-long}
 pub circuit-long : (n : ℕ) (selectors labels : List ℕ) (i : ℕ) → length (circuitLine n selectors labels i) ≡ 8
 circuit-long n selectors labels i = length-append (tab (column n selectors i) 5) (tab (column n labels i) 3) ∙ simp length-tab
 
--- a line of k numbers
-line-long : (vs : List ℕ) (k : ℕ) → length vs ≡ k → 0 < k → length (lineOf vs) ≤ 11 * k
+pub line-long : (vs : List ℕ) (k : ℕ) → length vs ≡ k → 0 < k → length (lineOf vs) ≤ 11 * k
 line-long vs k e h = omega (arith, length-numbers vs (omega arith))
 
 module _ (p n l : ℕ) (selectors labels witness publics challenges : List ℕ) where

@@ -15,7 +15,7 @@ use Prim.Native.Nat.{ℕ, zero, suc, _+_, _*_, _-_, _/_, _%_, _≤_, _<_}
 use native.Mathlib.Nat.{mod-lt, div-lt-iff-lt-mul, div-add-mod'}
 use native.Mathlib.Omega.{arith}
 use lib.Dec.{eqb, leb, ltb}
-use lib.ListN.{length, getD, length-append, List·getD-append}
+use lib.ListN.{length, getD, List·getD-append}
 use lib.Seq.{getD-append-add}
 use borrow.Author.Tests.{ne-eqb, le-leb, lt-leb, le-ltb}
 use Rattle.algebra.specs.Lists.{tab, All}
@@ -31,6 +31,7 @@ use Rattle.text.specs.Text.{isLineAt, lineOf}
 use Rattle.sheet.specs.Sheet.{sheetRows, fieldsDue, linesDue, lineAt, numberOf, sheetP, sheetN, sheetL, badLine, isExtra, onSelectors, onLabels, onWitness, onPublics, onChallenges, sheetElements, readAnswer}
 use Rattle.sheet.specs.Written.{column, circuitLine, witnessLine, publicLine, sheetText, Small, Right}
 use Rattle.sheet.specs.Due.{picked, some-due}
+use Rattle.sheet.specs.Fits.{circuit-long}
 use Rattle.sheet.specs.LaidLines.{laid-split, laid-same, laid-one, in-form, reads, no-bad, no-extra}
 
 pub record SheetBack (s : List ℕ) (p n l : ℕ) (selectors labels witness publics challenges : List ℕ) : Type 0 where
@@ -126,7 +127,7 @@ module _ (p n l : ℕ) (selectors labels witness publics challenges : List ℕ) 
     unfolding sheetLine fieldsDue
     line-long i =
         length-pick (eqb i 0) _ _ _ _ refl
-        (length-pick (leb i n) _ _ _ _ (length-append (tab (column n selectors (i - 1)) 5) (tab (column n labels (i - 1)) 3) ∙ simp length-tab)
+        (length-pick (leb i n) _ _ _ _ (circuit-long n selectors labels (i - 1))
         (length-pick (leb i (n + n)) _ _ _ _ (length-tab (column n witness (i - (n + 1))) 3)
         (length-pick (leb i (n + n + l)) _ _ _ _ refl (right .challenges-long))))
 
@@ -155,14 +156,11 @@ module _ (p n l : ℕ) (selectors labels witness publics challenges : List ℕ) 
     col : (k c : ℕ) → k < c * n → k / n < c
     col k c h = div-lt-iff-lt-mul {x = k} {y = c} (rows k c h) .1 h
 
-    circuit-long : (i : ℕ) → length (circuitLine n selectors labels i) ≡ 8
-    circuit-long i = length-append (tab (column n selectors i) 5) (tab (column n labels i) 3) ∙ simp length-tab
-
     selectors-back : (k : ℕ) → k < selectorsLength n → onSelectors lines n l k ≡ getD selectors k 0
     selectors-back k h =
         let a = row k 5 h in
         let b = col k 5 h in
-        number (suc (k % n)) (k / n) (circuitLine n selectors labels (k % n)) (omega arith) (line-circuit (suc (k % n)) (k % n) (omega arith) a) (omega (arith, circuit-long (k % n)))
+        number (suc (k % n)) (k / n) (circuitLine n selectors labels (k % n)) (omega arith) (line-circuit (suc (k % n)) (k % n) (omega arith) a) (omega (arith, circuit-long n selectors labels (k % n)))
         ∙ List·getD-append (tab (column n selectors (k % n)) 5) (tab (column n labels (k % n)) 3) 0 (k / n) (omega (arith, length-tab (column n selectors (k % n)) 5))
         ∙ getD-tab (column n selectors (k % n)) 5 (k / n) b
         ∙ back-column selectors k
@@ -171,7 +169,7 @@ module _ (p n l : ℕ) (selectors labels witness publics challenges : List ℕ) 
     labels-back k h =
         let a = row k 3 h in
         let b = col k 3 h in
-        number (suc (k % n)) (5 + k / n) (circuitLine n selectors labels (k % n)) (omega arith) (line-circuit (suc (k % n)) (k % n) (omega arith) a) (omega (arith, circuit-long (k % n)))
+        number (suc (k % n)) (5 + k / n) (circuitLine n selectors labels (k % n)) (omega arith) (line-circuit (suc (k % n)) (k % n) (omega arith) a) (omega (arith, circuit-long n selectors labels (k % n)))
         ∙ ap (λ (m : ℕ). getD (circuitLine n selectors labels (k % n)) (m + k / n) 0) (sym (length-tab (column n selectors (k % n)) 5))
         ∙ getD-append-add (tab (column n selectors (k % n)) 5) (tab (column n labels (k % n)) 3) (k / n) 0
         ∙ getD-tab (column n labels (k % n)) 3 (k / n) b

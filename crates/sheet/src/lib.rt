@@ -23,7 +23,7 @@ pub struct SheetAnswer {
 }
 
 // The greatest number of rows on a sheet.
-const ROWS: u32 = 256;
+pub const ROWS: u32 = 256;
 
 // Room for the table of a sheet's numbers: 8 words for each of the 770 lines that ROWS rows and as many public inputs have.
 pub fn table_room() -> [u32; 6160]
