@@ -25,33 +25,13 @@ fn pair(label: &[u8], p: u32, n: u32, l: u32, k: u32, m: u32)
     calls::line(label, &one[..c], &two[..d]);
 }
 
-// The greatest numbers of rows that can be doubled, and reason 3 for those above.
+// The greatest numbers of rows that can be doubled, reason 3 for those above, and 15 before it.
 fn greatest() {
-    pair(b"128 rows twice", LARGEST, 128, 0, 128, 0);
     pair(b"128 rows twice, l is 5 and 128", LARGEST, 128, 5, 128, 128);
-    pair(
-        b"128 rows twice, l is 128 and 128",
-        LARGEST,
-        128,
-        128,
-        128,
-        128,
-    );
     pair(b"256 rows twice", LARGEST, 256, 0, 256, 0);
-    pair(b"256 rows twice, l is 256 and 7", LARGEST, 256, 256, 256, 7);
     pair(b"97 with 16 rows twice", 97, 16, 3, 16, 4);
     pair(b"97 with 32 rows twice", 97, 32, 0, 32, 32);
-    pair(b"17 with 2 rows twice", 17, 2, 1, 2, 1);
-    pair(b"17 with 4 rows twice", 17, 4, 1, 4, 0);
-}
-
-// 15 where n differs, also where the doubled n would be too great.
-fn other_rows() {
-    pair(b"128 rows and 64", LARGEST, 128, 0, 64, 0);
-    pair(b"64 rows and 128", LARGEST, 64, 2, 128, 1);
-    pair(b"128 rows and 256", LARGEST, 128, 0, 256, 0);
     pair(b"15 before 3: 256 rows and 128", LARGEST, 256, 0, 128, 0);
-    pair(b"15 before 3: 97 with 32 rows and 16", 97, 32, 0, 16, 16);
 }
 
 // The worked sheet with zeros behind it, so many bytes in all, as either sheet.
@@ -70,6 +50,5 @@ fn too_long() {
 
 pub fn run() {
     greatest();
-    other_rows();
     too_long();
 }
