@@ -4,7 +4,7 @@
 -- by-kind            what holds of each kind holds of all 2n rows
 -- Below n s          a row of either sheet, below n
 -- source-below       each row of the joined sheet comes from a row below n
--- Stands P           there is a row or position of the joined sheet with P, below a bound
+-- Stands m P         there is a row or position of the joined sheet with P, below m
 -- one-stands, two-stands   each row of the first stands at some row of the joined sheet, and so does each of the second
 -- joined-position    the number at a column and a row of the joined sheet
 -- at-one, at-two     each position of the first stands at some position of the joined sheet, and so does each of the second
@@ -112,27 +112,24 @@ module _ (n l m : ℕ) where
     column : (k : ℕ) → k < 3 * n → k / n < 3
     column k h = div-lt-iff-lt-mul {x = k} {y = 3} some .1 h
 
-    -- the same column, and the row at which row k % n stands
-    pub at-one : (k : ℕ) → k < 3 * n → Stands (3 * (2 * n)) (λ j. (f g : ℕ → ℕ) → joinedAt n l m f g j ≡ f k)
-    at-one k h =
-        let row = one-stands n l m few few' (k % n) (mod-lt k some) in
+    -- the position in the column of position k, and in a row at which the row t stands
+    at-row : (k : ℕ) → k < 3 * n → (t : ℕ ⊎ ℕ) → Stands (2 * n) (λ i. sourceRow n l m i ≡ t)
+        → Stands (3 * (2 * n)) (λ j. (f g : ℕ → ℕ) → joinedAt n l m f g j ≡ fromRow (λ r. f (position n (k / n) r)) (λ r. g (position n (k / n) r)) t)
+    at-row k h t row =
         record {
           at = position (2 * n) (k / n) (row .at);
           within = omega (arith, row .within, run-room (k / n) 3 (2 * n) (column k h));
           there = λ f g.
               joined-position f g (k / n) (row .at) (row .within)
-              ∙ ap (fromRow (λ r. f (position n (k / n) r)) (λ r. g (position n (k / n) r))) (row .there)
-              ∙ ap f (div-add-mod' k n);
+              ∙ ap (fromRow (λ r. f (position n (k / n) r)) (λ r. g (position n (k / n) r))) (row .there);
         }
+
+    pub at-one : (k : ℕ) → k < 3 * n → Stands (3 * (2 * n)) (λ j. (f g : ℕ → ℕ) → joinedAt n l m f g j ≡ f k)
+    at-one k h =
+        let a = at-row k h (inl (k % n)) (one-stands n l m few few' (k % n) (mod-lt k some)) in
+        record { at = a .at; within = a .within; there = λ f g. a .there f g ∙ ap f (div-add-mod' k n) }
 
     pub at-two : (k : ℕ) → k < 3 * n → Stands (3 * (2 * n)) (λ j. (f g : ℕ → ℕ) → joinedAt n l m f g j ≡ g k)
     at-two k h =
-        let row = two-stands n l m few few' (k % n) (mod-lt k some) in
-        record {
-          at = position (2 * n) (k / n) (row .at);
-          within = omega (arith, row .within, run-room (k / n) 3 (2 * n) (column k h));
-          there = λ f g.
-              joined-position f g (k / n) (row .at) (row .within)
-              ∙ ap (fromRow (λ r. f (position n (k / n) r)) (λ r. g (position n (k / n) r))) (row .there)
-              ∙ ap g (div-add-mod' k n);
-        }
+        let a = at-row k h (inr (k % n)) (two-stands n l m few few' (k % n) (mod-lt k some)) in
+        record { at = a .at; within = a .within; there = λ f g. a .there f g ∙ ap g (div-add-mod' k n) }

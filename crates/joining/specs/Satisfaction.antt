@@ -210,9 +210,10 @@ module _ (p n l m : ℕ) (selectors labels witness publics challenges selectors'
     abbrev At : (v label : ℕ → ℕ) → ℕ → Type 0
     At v label k = Stands (3 * (2 * n)) (λ j. (witnessOf J j ≡ v k) × (constraintsOf J .label j ≡ label k))
 
-    one-at : (k : ℕ) → k < 3 * n → At (witnessOf A) (λ k. getD labels k 0) k
-    one-at k h =
-        let a = at-one n l m few few' some k h in
+    -- f k for a position of the first, g k for one of the second
+    at-of : (pick : (f g : ℕ → ℕ) → ℕ) → Stands (3 * (2 * n)) (λ j. (f g : ℕ → ℕ) → joinedAt n l m f g j ≡ pick f g)
+        → Stands (3 * (2 * n)) (λ j. (witnessOf J j ≡ pick (witnessOf A) (witnessOf B)) × (constraintsOf J .label j ≡ pick (λ k. getD labels k 0) (λ k. 3 * n + getD labels' k 0)))
+    at-of pick a =
         record {
           at = a .at;
           within = a .within;
@@ -222,17 +223,11 @@ module _ (p n l m : ℕ) (selectors labels witness publics challenges selectors'
           );
         }
 
+    one-at : (k : ℕ) → k < 3 * n → At (witnessOf A) (λ k. getD labels k 0) k
+    one-at k h = at-of (λ f g. f k) (at-one n l m few few' some k h)
+
     two-at : (k : ℕ) → k < 3 * n → At (witnessOf B) (λ k. 3 * n + getD labels' k 0) k
-    two-at k h =
-        let a = at-two n l m few few' some k h in
-        record {
-          at = a .at;
-          within = a .within;
-          there = (
-            witness-at (a .at) (a .within) ∙ a .there (witnessOf A) (witnessOf B),
-            label-at (a .at) (a .within) ∙ a .there (λ k. getD labels k 0) (λ k. 3 * n + getD labels' k 0),
-          );
-        }
+    two-at k h = at-of (λ f g. g k) (at-two n l m few few' some k h)
 
     agree : Satisfied J → (v label : ℕ → ℕ) → ((k : ℕ) → k < 3 * n → At v label k) → (j k : ℕ) → j < 3 * n → k < 3 * n → label j ≡ label k → v j ≡ v k
     agree S v label at j k h g e =
