@@ -20,6 +20,7 @@ static const uint32_t z[N] = {1, 14};
 static const uint32_t pair[GUPPYSPOON_CHECK_ROWS_CHALLENGES] = {1, 1};
 static const uint32_t three[GUPPYSPOON_PROVE_CHALLENGES] = {1, 1, 2};
 static const uint32_t four[GUPPYSPOON_CHECK_POINT_CHALLENGES] = {1, 1, 2, 2};
+static const uint32_t beta[GUPPYSPOON_LOST_GAMMAS_CHALLENGES] = {1};
 static const uint32_t proof[GUPPYSPOON_TRANSCRIPT_LENGTH(N)] = {4, 15, 13, 7, 9, 14, 16, 2, 9, 12, 15};
 static const uint32_t list[] = {8, 9, 10, 11, 12};
 static const uint32_t point[GUPPYSPOON_OPEN_CHALLENGES] = {2, 3};
@@ -124,6 +125,23 @@ static void every_join(void)
     join(sheet, both, GUPPYSPOON_JOINED_LENGTH);
     EXPECT("reason 15", GUPPYSPOON_JOIN_WORDS, GUPPYSPOON_UNLIKE_SHEETS, 0, 0);
     expect_that("the joined sheet is left", memcmp(joined, both, sizeof both) == 0);
+}
+
+/* The gammas that are lost with beta, counted, and tried one by one. A refusal counts none. */
+static void every_gamma(void)
+{
+    uint32_t lost = 0;
+    for (uint32_t gamma = 0; gamma < P; gamma++) {
+        prove(witness, (const uint32_t[]){beta[0], gamma, 2});
+        lost += answer[0] == GUPPYSPOON_ZERO_DENOMINATOR;
+    }
+    guppyspoon_lost_gammas(P, N, LENT(witness), LENT(beta), LENT(answer));
+    EXPECT("lost_gammas", GUPPYSPOON_LOST_GAMMAS_WORDS, GUPPYSPOON_ACCEPTED, 0, 4);
+    expect_that("so many are refused by prove", lost == 4);
+    guppyspoon_lost_gammas(P, N, LENT(witness), (const uint32_t[]){P}, GUPPYSPOON_LOST_GAMMAS_CHALLENGES, LENT(answer));
+    EXPECT("lost_gammas, reason 7", GUPPYSPOON_LOST_GAMMAS_WORDS, GUPPYSPOON_BAD_ELEMENT, 6, 0);
+    guppyspoon_lost_gammas(P, N, LENT(witness), LENT(pair), LENT(answer));
+    EXPECT("lost_gammas, reason 6", GUPPYSPOON_LOST_GAMMAS_WORDS, GUPPYSPOON_BAD_LENGTH, 2, 0);
 }
 
 static void every_call(void)
@@ -263,6 +281,7 @@ int main(void)
         answer[i] = UNTOUCHED;
     every_call();
     every_join();
+    every_gamma();
     every_verdict();
     every_reason();
     most_rows("most rows of 17", 17, GUPPYSPOON_MOST_ROWS_17);

@@ -53,6 +53,7 @@ extern "C" {
 #define GUPPYSPOON_CHECK_POINT_CHALLENGES 4   /* beta, gamma, alpha, zeta */
 #define GUPPYSPOON_OPEN_CHALLENGES 2          /* the point, the mixing number m */
 #define GUPPYSPOON_CHECK_OPENING_CHALLENGES 2 /* the same */
+#define GUPPYSPOON_LOST_GAMMAS_CHALLENGES 1   /* beta */
 
 /* Sheets: the most bytes of one, the bytes of a deposit's text and of the buffer for a joined sheet, and the words of the buffers that a sheet is
  * read into. */
@@ -76,6 +77,7 @@ extern "C" {
 #define GUPPYSPOON_OPEN_WORDS 2
 #define GUPPYSPOON_CHECK_OPENING_WORDS 3
 #define GUPPYSPOON_PROVE_WORDS 2
+#define GUPPYSPOON_LOST_GAMMAS_WORDS 3
 #define GUPPYSPOON_READ_WORDS 5
 #define GUPPYSPOON_DEPOSIT_WORDS 3
 #define GUPPYSPOON_JOIN_WORDS 3
@@ -92,6 +94,7 @@ extern "C" {
 #define GUPPYSPOON_OPEN_STACK 8192
 #define GUPPYSPOON_CHECK_OPENING_STACK 8192
 #define GUPPYSPOON_PROVE_STACK 245760
+#define GUPPYSPOON_LOST_GAMMAS_STACK 73728
 #define GUPPYSPOON_READ_STACK 32768
 #define GUPPYSPOON_DEPOSIT_STACK 294912
 #define GUPPYSPOON_JOIN_STACK 57344
@@ -237,6 +240,18 @@ void guppyspoon_prove(uint32_t p, uint32_t n, uint32_t l, const uint32_t *select
                       size_t labels_length, const uint32_t *witness, size_t witness_length, const uint32_t *publics, size_t publics_length,
                       uint32_t *transcript, size_t transcript_length, const uint32_t *challenges, size_t challenges_length, uint32_t *scratch,
                       size_t scratch_length, uint32_t *answer, size_t answer_length);
+
+/* The gammas that are lost with a beta: how many of the p gammas guppyspoon_prove refuses with reason 11, for a witness that satisfies its circuit.
+ * The others it takes. Counted are the different numbers among witness + beta * tag, modulo p, over the 3n positions. The tag of a position is 1,
+ * g or g * g, for the columns a, b, c, times the point of its row; g is 3 for 17, 5 for 97, 31 for 2013265921. Whether the witness satisfies a
+ * circuit is not looked at.
+ *
+ * Buffers: 1 witness, 3n; 2 challenges (beta), 1.
+ * Reasons: 2, 3, 6, 7 (witness, challenges end to end).
+ * Answer: number, detail, the count (0 if refused).
+ */
+void guppyspoon_lost_gammas(uint32_t p, uint32_t n, const uint32_t *witness, size_t witness_length, const uint32_t *challenges,
+                            size_t challenges_length, uint32_t *answer, size_t answer_length);
 
 /* The numbers of a sheet, at the start of buffers with room for 256 rows, zeros behind.
  *

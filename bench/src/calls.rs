@@ -44,6 +44,10 @@ extern "C" {
         transcript_length: usize, challenges: *const u32, challenges_length: usize, scratch: *mut u32, scratch_length: usize,
         answer: *mut u32, answer_length: usize,
     );
+    fn guppyspoon_lost_gammas(
+        p: u32, n: u32, witness: *const u32, witness_length: usize, challenges: *const u32, challenges_length: usize, answer: *mut u32,
+        answer_length: usize,
+    );
     fn guppyspoon_read(
         sheet: *const u8, sheet_length: usize, selectors: *mut u32, selectors_length: usize, labels: *mut u32, labels_length: usize,
         witness: *mut u32, witness_length: usize, publics: *mut u32, publics_length: usize, challenges: *mut u32, challenges_length: usize,
@@ -69,6 +73,7 @@ pub fn address(name: &str) -> *const () {
         "open" => guppyspoon_open as *const (),
         "check_opening" => guppyspoon_check_opening as *const (),
         "prove" => guppyspoon_prove as *const (),
+        "lost_gammas" => guppyspoon_lost_gammas as *const (),
         "read" => guppyspoon_read as *const (),
         "deposit" => guppyspoon_deposit as *const (),
         "join" => guppyspoon_join as *const (),
@@ -282,6 +287,21 @@ pub fn prove(
             challenges.len(),
             scratch.as_mut_ptr(),
             scratch.len(),
+            answer.as_mut_ptr(),
+            answer.len(),
+        )
+    }
+}
+
+pub fn lost_gammas(p: u32, n: u32, witness: &[u32], challenges: &[u32], answer: &mut [u32]) {
+    unsafe {
+        guppyspoon_lost_gammas(
+            p,
+            n,
+            witness.as_ptr(),
+            witness.len(),
+            challenges.as_ptr(),
+            challenges.len(),
             answer.as_mut_ptr(),
             answer.len(),
         )

@@ -183,6 +183,7 @@ impl Circuit {
             Kind::CheckPoint => vec![publics, self.prepared(), self.transcript(), self.challenges.to_vec(), scratch],
             Kind::Open | Kind::CheckOpening => return self.opening().case(r, kind),
             Kind::Prove => vec![selectors, labels, contents, publics, r.words(7 * n - 3), self.challenges[..3].to_vec(), scratch],
+            Kind::LostGammas => vec![contents, vec![beta]],
         };
         let n = if kind == Kind::Inverse { r.element(p) } else { self.n };
         Case { kind, p, n, l: self.l, buffers }

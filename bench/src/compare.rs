@@ -1,6 +1,7 @@
 // The proved library against the plain implementation: every word of every buffer.
 use crate::cases::{at_a_row, damage, disturb, Circuit};
 use crate::kinds::{plainly, proved, Case, Kind, KINDS};
+use crate::loss_cases;
 use crate::numbers::{field, LARGEST, PRIMES};
 use crate::opening_cases::{self, mislead, Opening};
 use crate::random::Random;
@@ -75,10 +76,13 @@ fn try_case(r: &mut Random, case: &Case, counts: &mut Counts) -> usize {
     }
 }
 
-// A list of polynomials, or a circuit, a third of them with a fault of the filling, lent as it should be.
+// A list of polynomials, contents with a beta, or a circuit, a third of them with a fault of the filling, lent as it should be.
 fn lent(r: &mut Random, kind: Kind, p: u32, n: u32) -> Case {
     if kind.has_list() {
         return Opening::new(r, p, n).case(r, kind);
+    }
+    if kind == Kind::LostGammas {
+        return loss_cases::lent(r, p, n);
     }
     let mut circuit = Circuit::new(r, p, n);
     if r.once_in(3) {
@@ -125,6 +129,7 @@ fn all_small(r: &mut Random, kind: Kind) -> Vec<Case> {
     match kind {
         Kind::Inverse => all_inverses(),
         Kind::Open | Kind::CheckOpening => opening_cases::all_small(r, kind),
+        Kind::LostGammas => loss_cases::all_small(r),
         _ => vec![],
     }
 }

@@ -1,7 +1,8 @@
-// The sheet of document 01 with the answers that it gives, and openings of its polynomials and joins of it with answers worked out by hand, on both
-// sides.
+// The sheet of document 01 with the answers that it gives, and openings of its polynomials, joins of it and counts of the gammas that are lost with it,
+// with answers worked out by hand, on both sides.
 use crate::kinds::{plainly, proved, Case, Kind};
-use crate::{calls, join_compare, plain, sheets};
+use crate::random::Random;
+use crate::{calls, gammas, join_compare, plain, sheets};
 
 pub const SHEET: &[u8] = b"17,2,0\n0,0,16,1,0,0,1,2\n1,1,16,0,0,2,2,3\n2,3,6\n6,6,12\n1,1,2,2\n";
 // The same with row 0 made a public row, and the content of its a as public number.
@@ -21,6 +22,8 @@ const SELECTORS: [u32; 10] = [0, 1, 0, 1, 16, 16, 1, 0, 0, 0];
 const LABELS: [u32; 6] = [0, 2, 1, 2, 2, 3];
 const CONTENTS: [u32; 6] = [2, 6, 3, 6, 6, 12];
 const TRANSCRIPT: [u32; 11] = [4, 15, 13, 7, 9, 14, 16, 2, 9, 12, 15];
+// How many gammas are lost with each beta: 91 of the 289 pairs together.
+const LOST: [u32; 17] = [4, 4, 5, 6, 6, 4, 5, 6, 4, 5, 6, 6, 6, 6, 6, 6, 6];
 
 // A call on both sides: the answer's words, then the numbers of the buffer that is looked at.
 fn expect(name: &str, kind: Kind, l: u32, buffers: &[&[u32]], words: &[u32], at: usize, due: &[u32]) -> usize {
@@ -152,6 +155,28 @@ fn joins() -> usize {
     off
 }
 
+fn lost(name: &str, contents: &[u32], challenges: &[u32], words: &[u32]) -> usize {
+    expect(&format!("lost gammas, {name}"), Kind::LostGammas, 0, &[contents, challenges], words, 0, contents)
+}
+
+// The gammas that are lost with each beta, counted and tried with `prove`, and the count's refusals.
+fn losses() -> usize {
+    let mut r = Random::new(91);
+    let mut circuit = sheets::parse(SHEET).expect("a sheet that can be read");
+    let mut off = 0;
+    for (beta, due) in (0..).zip(LOST) {
+        off += lost(&format!("beta {beta}"), &CONTENTS, &[beta], &[0, 0, due]);
+        circuit.challenges[0] = beta;
+        off += gammas::try_circuit(&mut r, &circuit);
+    }
+    off += lost("beta 17", &CONTENTS, &[17], &[7, 6, 0]);
+    off += lost("content 17", &[2, 6, 3, 6, 6, 17], &[17], &[7, 5, 0]);
+    off += lost("no beta", &CONTENTS, &[], &[6, 2, 0]);
+    off += lost("two betas", &CONTENTS, &[1, 1], &[6, 2, 0]);
+    off += lost("five contents and no beta", &CONTENTS[..5], &[], &[6, 1, 0]);
+    off
+}
+
 pub fn run() -> usize {
     let untouched = [7; 11];
     let mut off = 0;
@@ -177,6 +202,7 @@ pub fn run() -> usize {
     off += deposits();
     off += public_rows();
     off += joins();
+    off += losses();
     println!("the sheet of document 01: {off} differences");
     off
 }

@@ -1,5 +1,5 @@
 // The calls by name, the buffers of each in document 01's order, and how a case is lent to either side.
-use crate::{calls, openings, plain};
+use crate::{calls, losses, openings, plain};
 
 #[derive(Clone, Copy, PartialEq, Debug)]
 pub enum Kind {
@@ -13,9 +13,10 @@ pub enum Kind {
     Open,
     CheckOpening,
     Prove,
+    LostGammas,
 }
 
-pub const KINDS: [Kind; 10] = [
+pub const KINDS: [Kind; 11] = [
     Kind::Inverse,
     Kind::Evaluate,
     Kind::Interpolate,
@@ -26,6 +27,7 @@ pub const KINDS: [Kind; 10] = [
     Kind::Open,
     Kind::CheckOpening,
     Kind::Prove,
+    Kind::LostGammas,
 ];
 
 // What a buffer holds: elements, labels or the numbers of polynomials that are read, or numbers that are only written.
@@ -50,6 +52,7 @@ impl Kind {
             Kind::Open => &[Elements, Elements, Polynomials, Written, Written, Elements, Written],
             Kind::CheckOpening => &[Elements, Elements, Polynomials, Elements, Elements, Elements, Written],
             Kind::Prove => &[Elements, Labels, Elements, Elements, Written, Elements, Written],
+            Kind::LostGammas => &[Elements, Elements],
         }
     }
 
@@ -103,6 +106,7 @@ pub fn plainly(case: &Case, buffers: &mut [&mut [u32]]) -> Vec<u32> {
         (Kind::Prove, [selectors, labels, contents, publics, transcript, challenges, scratch]) => {
             plain::prove(p, n, l, selectors, labels, contents, publics, transcript, challenges, scratch).to_vec()
         }
+        (Kind::LostGammas, [contents, challenges]) => losses::lost_gammas(p, n, contents, challenges).to_vec(),
         _ => unreachable!("a case has the buffers of its call"),
     }
 }
@@ -131,6 +135,7 @@ pub fn proved(case: &Case, buffers: &mut [&mut [u32]], answer: &mut [u32]) {
         (Kind::Prove, [selectors, labels, contents, publics, transcript, challenges, scratch]) => {
             calls::prove(p, n, l, selectors, labels, contents, publics, transcript, challenges, scratch, answer)
         }
+        (Kind::LostGammas, [contents, challenges]) => calls::lost_gammas(p, n, contents, challenges, answer),
         _ => unreachable!("a case has the buffers of its call"),
     }
 }

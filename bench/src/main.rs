@@ -1,17 +1,18 @@
-// Compares the proved library with a plain implementation of document 01 and of the openings and joins of document 02, holds the C header to the
-// library, and measures stack and time. Run it from the repository's root:
+// Compares the proved library with a plain implementation of document 01 and of the openings, joins and lost gammas of document 02, holds the C header
+// to the library, and measures stack and time. Run it from the repository's root:
 //
 //     rt staticlib exports && cargo run --release --manifest-path bench/Cargo.toml
 //
 // The parts, of which those named behind `--` are run, or all if none is:
 //
 //     compare   holds both to the sheet of document 01, their transforms of every size to the values at the points, and their provers of every size to one
-//               whose products are made row by row; then lends the same inputs to both, many of them, short and long, valid and damaged, and compares
-//               every word of every buffer afterwards, those that a call only reads and the words around each lent part among them
+//               whose products are made row by row, and the count of the gammas lost to the gammas that prove refuses with 11; then lends the same
+//               inputs to both, many of them, short and long, valid and damaged, and compares every word of every buffer afterwards, those that a
+//               call only reads and the words around each lent part among them
 //     header    compares include/guppyspoon.h with the library's source, and compiles and runs the C programs that include it
 //     stack     prints the stack that each call takes at its largest size, beside what the header says
 //     measure   prints the time of each call on both sides and the ratio
-//     growth    prints the same of prove at every number of rows, from 2 to 1,024, and of join, from 2 to 128 rows of each sheet
+//     growth    prints the same of prove and lost_gammas at every number of rows, from 2 to 1,024, and of join, from 2 to 128 rows of each sheet
 //
 // Behind `--` a number multiplies the number of cases, and a folder has its files that end in .sheet compared too, read and deposited, and the texts
 // with its files that end in .out; and its pairs of files that end in .one and .two, joined, and what they give with those that end in .out. The exit
@@ -23,10 +24,13 @@ mod cases;
 mod compare;
 mod declarations;
 mod document;
+mod gammas;
 mod header;
 mod join_compare;
 mod joins;
 mod kinds;
+mod loss_cases;
+mod losses;
 mod measure;
 mod numbers;
 mod opening_cases;
@@ -71,6 +75,7 @@ fn main() {
         differences += document::run();
         differences += transforms::run();
         differences += products::run();
+        differences += gammas::run(times);
         differences += compare::run(times);
         differences += sheet_compare::run(times);
         differences += join_compare::run(times);

@@ -3,6 +3,7 @@ use crate::calls;
 use crate::cases::Circuit;
 use crate::joins::{self, JOINED};
 use crate::kinds::{plainly, proved, Case, Kind};
+use crate::loss_cases;
 use crate::numbers::{field, LARGEST};
 use crate::random::Random;
 use crate::sheet_cases::sheet_of;
@@ -37,7 +38,7 @@ fn batch(call: &mut dyn FnMut(), calls: usize) -> f64 {
 
 // The best of many short batches of each side, in turn, so that both meet the same disturbances.
 fn measure(name: &str, n: u32, theirs: &mut dyn FnMut(), ours: &mut dyn FnMut()) {
-    let first = batch(ours, 1).max(0.1);
+    let first = batch(ours, 2).max(batch(theirs, 2)).max(0.1);
     let calls = (2_000.0 / first).max(1.0) as usize;
     let batches = (2_000_000.0 / (first * calls as f64)).clamp(15.0, 300.0) as usize;
     let (mut plain, mut proved) = (f64::MAX, f64::MAX);
@@ -48,21 +49,26 @@ fn measure(name: &str, n: u32, theirs: &mut dyn FnMut(), ours: &mut dyn FnMut())
     println!("{name:<12} {n:>6} {proved:>12.2} {plain:>12.2} {:>8.2}", proved / plain);
 }
 
-// A call on lent numbers.
+// A call on lent numbers, under its own name.
 fn measure_case(case: &Case) {
+    measure_named(&format!("{:?}", case.kind), case);
+}
+
+fn measure_named(name: &str, case: &Case) {
     let mut one = case.buffers.clone();
     let mut other = case.buffers.clone();
     let mut theirs: Vec<&mut [u32]> = one.iter_mut().map(|b| &mut b[..]).collect();
     let mut ours: Vec<&mut [u32]> = other.iter_mut().map(|b| &mut b[..]).collect();
     let mut answer = [0; 4];
-    measure(
-        &format!("{:?}", case.kind),
-        case.n,
-        &mut || proved(black_box(case), black_box(&mut theirs), black_box(&mut answer)),
-        &mut || {
-            black_box(plainly(black_box(case), black_box(&mut ours)));
-        },
-    );
+    measure(name, case.n, &mut || proved(black_box(case), black_box(&mut theirs), black_box(&mut answer)), &mut || {
+        black_box(plainly(black_box(case), black_box(&mut ours)));
+    });
+}
+
+// Counting the gammas lost, of any contents, and of those that give the library the most work.
+fn measure_losses(r: &mut Random, n: u32) {
+    measure_case(&loss_cases::any(r, LARGEST, n));
+    measure_named("- the worst", &loss_cases::one_remainder(LARGEST, n));
 }
 
 // Reading a sheet.
@@ -144,9 +150,12 @@ pub fn run() {
     for n in [16, 64, MOST_ROWS / 2] {
         measure_join(&mut r, n);
     }
+    for n in [64, 256, 1024] {
+        measure_losses(&mut r, n);
+    }
 }
 
-// How the time of `prove` grows with n, and that of `join`.
+// How the time of `prove` grows with n, that of `join`, and that of `lost_gammas`.
 pub fn growth() {
     let mut r = Random::new(1024);
     let (_, most) = field(LARGEST).unwrap();
@@ -159,6 +168,11 @@ pub fn growth() {
     let mut n = 2;
     while 2 * n <= MOST_ROWS {
         measure_join(&mut r, n);
+        n *= 2;
+    }
+    let mut n = 2;
+    while n <= most {
+        measure_losses(&mut r, n);
         n *= 2;
     }
 }

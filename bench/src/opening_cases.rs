@@ -83,7 +83,7 @@ pub fn relist(r: &mut Random, case: &mut Case) {
 }
 
 // Every place of every buffer, with each element, what is none, and what no list may have.
-fn every_place(case: &Case) -> Vec<Case> {
+pub fn every_place(case: &Case) -> Vec<Case> {
     let mut out = Vec::new();
     for k in 0..case.buffers.len() {
         for i in 0..case.buffers[k].len() {

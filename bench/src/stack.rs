@@ -150,6 +150,7 @@ fn name_of(kind: Kind) -> &'static str {
         Kind::Open => "open",
         Kind::CheckOpening => "check_opening",
         Kind::Prove => "prove",
+        Kind::LostGammas => "lost_gammas",
     }
 }
 

@@ -1,16 +1,16 @@
 -- The rules of counting: `AtMost K P` says that every list without repetition whose elements satisfy P has at most K of them.
 --
 -- All-map, All-both     every element: by an implication; of two properties
+-- All-image, Nodup-image  the images of a list's elements: by an implication; without repetition, by a map that keeps things apart
 -- at-most-of            fewer things, a larger bound
 -- at-most-none          none at all
 -- at-most-or            things of two kinds: the bounds add up
 -- at-most-key           by a key with N values: at most K things for each
 -- at-most-image         by a map that keeps things apart
--- at-most-pairs         pairs: the first is below N, and at most K seconds for each
 -- at-most-below         the numbers below n
 --
 -- Assumes nothing.
-use mathlib.Core.Path.{_≡_, sym, _∙_, subst}
+use mathlib.Core.Path.{_≡_, sym, _∙_}
 use mathlib.Core.Logic.{_≢_, _⊎_, inl, inr}
 use mathlib.Core.List.{List, [], _∷_, map}
 use Prim.Native.Nat.{ℕ, zero, suc, _+_, _*_, _≤_, _<_}
@@ -99,30 +99,20 @@ module _ {A : Type 0} where
           go (no e) = inl (h, omega (arith, b a h))
 
 module _ {A B : Type 0} where
+  pub All-image : {P : A → Type 0} (Q : B → Type 0) (f : A → B) → ((a : A) → P a → Q (f a)) → (l : List A) → All P l → All Q (map f l)
+  All-image Q f to [] t = tt
+  All-image Q f to (x ∷ xs) t = (to x (t .0), All-image Q f to xs (t .1))
+
+  pub Nodup-image : {P : A → Type 0} (f : A → B) → ((a b : A) → P a → P b → f a ≡ f b → a ≡ b) → (l : List A) → Nodup l → All P l → Nodup (map f l)
+  Nodup-image f inj [] n t = tt
+  Nodup-image {P} f inj (x ∷ xs) n t = (
+    All-image (λ z. f x ≢ z) f (λ y h e. h .1 (inj x y (t .0) (h .0) e)) xs (All-both P (λ y. x ≢ y) xs (t .1) (n .0)),
+    Nodup-image f inj xs (n .1) (t .1),
+  )
+
   pub at-most-image : {K : ℕ} {P : A → Type 0} {Q : B → Type 0} (f : A → B) → ((a : A) → P a → Q (f a))
       → ((a b : A) → P a → P b → f a ≡ f b → a ≡ b) → AtMost K Q → AtMost K P
-  at-most-image {K} {P} {Q} f to inj m l n t = rw (length-map l f) at (m (map f l) (nodup l n t) (all l t))
-    where
-      all : (l : List A) → All P l → All Q (map f l)
-      all [] t = tt
-      all (x ∷ xs) t = (to x (t .0), all xs (t .1))
-
-      fresh : (x : A) → P x → (l : List A) → All P l → All (λ y. x ≢ y) l → All (λ y. f x ≢ y) (map f l)
-      fresh x h [] t n = tt
-      fresh x h (y ∷ ys) t n = (λ e. n .0 (inj x y h (t .0) e), fresh x h ys (t .1) (n .1))
-
-      nodup : (l : List A) → Nodup l → All P l → Nodup (map f l)
-      nodup [] n t = tt
-      nodup (x ∷ xs) n t = (fresh x (t .0) xs (t .1) (n .0), nodup xs (n .1) (t .1))
-
-pub at-most-pairs : {P : (ℕ × ℕ) → Type 0} (N K : ℕ) → ((s : ℕ × ℕ) → P s → s .0 < N)
-    → ((b : ℕ) → b < N → AtMost K (λ c. P (b, c))) → AtMost (N * K) P
-at-most-pairs {P} N K low each = at-most-key (λ s. s .0) N K low fibre
-  where
-    fibre : (b : ℕ) → b < N → AtMost K (λ s. P s × (s .0 ≡ b))
-    fibre b l =
-        at-most-image {Q = λ c. P (b, c)} (λ s. s .1) (λ s h. subst (λ (z : ℕ). P (z, s .1)) (h .1) (h .0))
-        (λ s t h k e i. ((h .1 ∙ sym (k .1)) i, e i)) (each b l)
+  at-most-image {K} {P} {Q} f to inj m l n t = rw (length-map l f) at (m (map f l) (Nodup-image f inj l n t) (All-image Q f to l t))
 
 pub at-most-below : (n : ℕ) → AtMost n (λ x. x < n)
 at-most-below n = at-most-of (at-most-key {P = λ x. x < n} (λ x. x) n 1 (λ a h. h) one) (λ a h. h) (omega arith)

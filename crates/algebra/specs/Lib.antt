@@ -15,6 +15,7 @@ pub mod PolynomialLaws
 pub mod Same
 pub mod Convolution
 pub mod Counting
+pub mod Exact
 pub mod Products
 pub mod Roots
 pub mod Linear

@@ -97,7 +97,7 @@ pub all-of : (P : ℕ → Type 0) (l : List ℕ) → ((i : ℕ) → i < length l
 all-of P [] h = tt
 all-of P (a ∷ l) h = (h 0 (omega arith), all-of P l (λ i k. h (suc i) (omega arith)))
 
-pub all-append : (P : ℕ → Type 0) (f g : List ℕ) → All P f → All P g → All P (f ++ g)
+pub all-append : {A : Type 0} (P : A → Type 0) (f g : List A) → All P f → All P g → All P (f ++ g)
 all-append P [] g a b = b
 all-append P (c ∷ f) g a b = (a .0, all-append P f g (a .1) b)
 

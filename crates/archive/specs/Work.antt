@@ -126,7 +126,7 @@ module _ (p n l : ℕ) (selectors labels witness publics challenges : List ℕ) 
       → (T : List ℕ) × (workTranscript p n l selectors labels witness publics challenges ≡ some T)
   work-laid e =
       let A = accepted e in
-      let g = grand-product (domain p n (A .admissible)) _ _ _ _ (A .no-zero) in
+      let g = grand-product (domain p n (A .honest .admissible)) _ _ _ _ (A .no-zero) in
       (_, taken _ (first-three _ (proved-laid p n _ _ _ _ (g .0) (g .1 .is) (lentPublic publics) _)))
     where
       taken : (T : List ℕ)
@@ -150,11 +150,11 @@ module _ (p n l : ℕ) (selectors labels witness publics challenges : List ℕ) 
         let A = accepted e in
         record {
           few = W .few;
-          admissible = A .admissible;
-          circuit-right = A .circuit-right;
-          publics-right = A .publics-right;
+          admissible = A .honest .admissible;
+          circuit-right = A .honest .circuit-right;
+          publics-right = A .honest .publics-right;
           transcript-right =
-              proved-elements (domain p n (A .admissible)) (lentConstraints n selectors labels) (lentPublic publics) (lentWitness n witness) _ _ _ T
+              proved-elements (domain p n (A .honest .admissible)) (lentConstraints n selectors labels) (lentPublic publics) (lentWitness n witness) _ _ _ T
               (omega (arith, W .some))
               laid;
           challenges-right = W .challenges-right;

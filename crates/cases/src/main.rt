@@ -11,4 +11,5 @@ fn main() {
     prover_cases::run();
     prover_circuits::run();
     joining_cases::run();
+    losses_cases::run();
 }

@@ -12,7 +12,8 @@
 -- judgedWord v          the word of a point verdict: 0 none, 1 accept, 2 reject
 -- pointWords r          number, detail and the word of the verdict
 -- sheetWords r          number, detail, p, n and l
--- lengthWords r k       number, detail and a length
+-- countWords r k        number, detail and a count or a length
+-- countedWords r        with the count of lost gammas
 -- depositedWords r      with the length of the text
 -- joinedWords r         with the length of the joined sheet
 -- Handed words promise buffer buffer'   the call was made, its answer keeps the call's own promise, and its words stand in the buffer
@@ -33,6 +34,7 @@ use Rattle.rowcheck.specs.declared.RowAnswer.{RowAnswer}
 use Rattle.pointcheck.specs.declared.Judged.{Judged}
 use Rattle.pointcheck.specs.declared.Judged.the-variants as judged
 use Rattle.pointcheck.specs.declared.PointAnswer.{PointAnswer}
+use Rattle.losses.specs.declared.Counted.{Counted}
 use Rattle.sheet.specs.declared.SheetAnswer.{SheetAnswer}
 use Rattle.joining.specs.declared.Joined.{Joined}
 use Rattle.archive.specs.declared.Deposited.{Deposited}
@@ -85,14 +87,17 @@ pointWords r = r .answer .number ∷ r .answer .detail ∷ judgedWord (r .verdic
 abbrev pub sheetWords : SheetAnswer → List ℕ
 sheetWords r = r .answer .number ∷ r .answer .detail ∷ r .p ∷ r .n ∷ r .l ∷ []
 
-abbrev pub lengthWords : Answer → ℕ → List ℕ
-lengthWords r k = r .number ∷ r .detail ∷ k ∷ []
+abbrev pub countWords : Answer → ℕ → List ℕ
+countWords r k = r .number ∷ r .detail ∷ k ∷ []
+
+abbrev pub countedWords : Counted → List ℕ
+countedWords r = countWords (r .answer) (r .count)
 
 abbrev pub depositedWords : Deposited → List ℕ
-depositedWords r = lengthWords (r .answer) (r .length)
+depositedWords r = countWords (r .answer) (r .length)
 
 abbrev pub joinedWords : Joined → List ℕ
-joinedWords r = lengthWords (r .answer) (r .length)
+joinedWords r = countWords (r .answer) (r .length)
 
 -- the promise fixes the answer, and so the words
 pub record Handed {R : Type 0} (words : R → List ℕ) (promise : R → Type 0) (buffer buffer' : List ℕ) : Type 0 where

@@ -12,6 +12,7 @@
 //   guppyspoon_check_rows      0 none, 1 pass, 2 gate, 3 start, 4 step; and the row that fails, or 0
 //   guppyspoon_check_point     0 none, 1 accept, 2 reject
 //   guppyspoon_check_opening   0 none, 1 accept, 2 reject
+//   guppyspoon_lost_gammas     how many gammas are lost
 //   guppyspoon_read            p, n and l
 //   guppyspoon_deposit         the number of bytes of the text
 //   guppyspoon_join            the number of bytes of the joined sheet
@@ -27,10 +28,11 @@ ghost use Rattle.rowcheck.specs.Promises.{ChecksRows};
 ghost use Rattle.pointcheck.specs.Promises.{PointChecks};
 ghost use Rattle.opening.specs.Promises.{Opens, ChecksOpening};
 ghost use Rattle.prover.specs.Promises.{Proves};
+ghost use Rattle.losses.specs.Losses.{LosesGammas};
 ghost use Rattle.sheet.specs.Promises.{Reads};
 ghost use Rattle.joining.specs.Joining.{Joins};
 ghost use Rattle.archive.specs.Deposit.{Deposits};
-ghost use Rattle.exports.specs.Answers.{answerWords, invertedWords, rowWords, pointWords, sheetWords, depositedWords, joinedWords, Handed};
+ghost use Rattle.exports.specs.Answers.{answerWords, invertedWords, rowWords, pointWords, countedWords, sheetWords, depositedWords, joinedWords, Handed};
 
 mod words;
 
@@ -239,6 +241,22 @@ pub extern "C" fn guppyspoon_prove(
     words::put_answer(r, answer);
 }
 
+// `losses::lost_gammas`: how many gammas a beta loses to reason 11.
+#[no_mangle]
+pub extern "C" fn guppyspoon_lost_gammas(
+    p: u32,
+    n: u32,
+    witness: &[u32],
+    challenges: &[u32],
+    answer: &mut [u32],
+)
+    ensures { λ _. ⌜ Handed countedWords (λ r. LosesGammas p n (now (witness .entry)) (now (challenges .entry)) r) (now (answer .entry)) (now (answer .exit)) ⌝ }
+{
+    let r = losses::lost_gammas(p, n, witness, challenges);
+    let a = r.answer;
+    words::put_count(a, r.count, answer);
+}
+
 // `sheet::read`: the numbers of a sheet, laid out as they are lent for 256 rows.
 #[no_mangle]
 pub extern "C" fn guppyspoon_read(
@@ -263,7 +281,7 @@ pub extern "C" fn guppyspoon_deposit(sheet: &[u8], text: &mut [u8], answer: &mut
 {
     let r = archive::deposit(sheet, text);
     let a = r.answer;
-    words::put_length(a, r.length, answer);
+    words::put_count(a, r.length as u32, answer);
 }
 
 // `joining::join`: the sheet of two sheets' circuits and what they are filled with.
@@ -273,5 +291,5 @@ pub extern "C" fn guppyspoon_join(one: &[u8], two: &[u8], joined: &mut [u8], ans
 {
     let r = joining::join(one, two, joined);
     let a = r.answer;
-    words::put_length(a, r.length, answer);
+    words::put_count(a, r.length as u32, answer);
 }

@@ -1,8 +1,7 @@
 // Answers as words at the start of a lent buffer. A word for which the buffer has no room is left out.
 ghost use mathlib.Core.Path.{_≡_};
-ghost use Prim.Native.Nat.{_≤_};
 ghost use lib.ListN.{set};
-ghost use Rattle.exports.specs.Answers.{over, answerWords, isThere, inverseWord, invertedWords, identityWord, verdictWord, verdictRow, rowWords, judgedWord, pointWords, sheetWords, lengthWords};
+ghost use Rattle.exports.specs.Answers.{over, answerWords, isThere, inverseWord, invertedWords, identityWord, verdictWord, verdictRow, rowWords, judgedWord, pointWords, sheetWords, countWords};
 use field::Answer;
 use field::InverseOf;
 use field::Inverted;
@@ -137,11 +136,10 @@ pub fn put_sheet(r: SheetAnswer, buffer: &mut [u32])
     put(buffer, 4, r.l);
 }
 
-// The number, the detail and the length of what was written, which a word has room for.
-pub fn put_length(r: Answer, length: usize, buffer: &mut [u32])
-    requires { ⌜ length ≤ 65536 ⌝ }
-    ensures { λ _. ⌜ now (buffer .exit) ≡ over (lengthWords r length) (now (buffer .entry)) ⌝ }
+// The number, the detail and a count, or the length of what was written.
+pub fn put_count(r: Answer, count: u32, buffer: &mut [u32])
+    ensures { λ _. ⌜ now (buffer .exit) ≡ over (countWords r count) (now (buffer .entry)) ⌝ }
 {
     put_answer(r, buffer);
-    put(buffer, 2, length as u32);
+    put(buffer, 2, count);
 }

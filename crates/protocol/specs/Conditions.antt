@@ -1,27 +1,26 @@
--- The reasons that look at the witness, and what they say: 9 and 10 apply nowhere exactly where the witness satisfies the constraints; 11 applies for few
--- pairs.
+-- The reasons that look at the witness, and what they say: 9 and 10 apply nowhere exactly where the witness satisfies the constraints; 11 applies exactly
+-- where a factor of some D(i) is zero.
 --
 -- satisfied            where 9 and 10 apply nowhere, the witness satisfies the constraints
 -- unbroken             where it satisfies the constraints, 9 and 10 apply nowhere
+-- zeroFactor-le        11's row is at most n, which stands for none
 -- factors-nonzero      where 11 applies nowhere, no factor of any D(i) is zero
+-- zero-at, zero-below  where 11 applies, the factor at some position is zero; and back
 -- zero-factor-labels   11 sees the labels alone of lent constraints
--- few-zero-factors     at most 3n × p pairs (beta, gamma) meet 11
 --
 -- Assumes nothing.
-use mathlib.Core.Path.{_≡_, refl, sym, ap, _∙_, subst}
+use mathlib.Core.Path.{_≡_, refl, sym, ap, _∙_}
 use mathlib.Core.Logic.{_⊎_, inl, inr}
 use mathlib.Core.Bool.{Bool, true, false, not, _&&_, _||_}
-use mathlib.Core.List.{List, [], _∷_}
-use Prim.Native.Nat.{ℕ, zero, suc, _+_, _*_, _%_, _<_}
-use native.Mathlib.Decide.{ℕ-discrete, decLt}
+use mathlib.Core.List.{List}
+use Prim.Native.Nat.{ℕ, zero, suc, _*_, _%_, _≤_, _<_}
+use native.Mathlib.Decide.{decLt}
 use native.Mathlib.Omega.{arith}
 use lib.Dec.{eqb, ltb}
 use borrow.Author.Tests.{eqb-true, eqb-false, eq-eqb, ltb-true, ltb-false, not-false, not-true}
 use Rattle.algebra.specs.Modular.{first}
-use Rattle.algebra.specs.Lists.{AtMost}
-use Rattle.algebra.specs.Congruence.{Cong, cong, _⨾_, back, cong-lt, cong-cancel, cong-0, is-0}
-use Rattle.algebra.specs.Search.{first-is, first-none, none-of, both-false, one-true}
-use Rattle.algebra.specs.Counting.{at-most-of, at-most-none, at-most-or, at-most-pairs}
+use Rattle.algebra.specs.Congruence.{Cong, cong-0, is-0}
+use Rattle.algebra.specs.Search.{first-is, first-none, first-le, none-of, both-false, one-true}
 use Rattle.circuit.specs.Circuit.{Constraints, position, lentConstraints, gate, Satisfies}
 use Rattle.circuit.specs.Positions.{by-position}
 use Rattle.protocol.specs.Protocol.{factor, wiredTag, brokenGate, brokenCopy, zeroFactor}
@@ -77,6 +76,10 @@ module _ (p n : ℕ) (C : Constraints) (x v : ℕ → ℕ) where
 
 -- 11
 
+pub zeroFactor-le : (p n : ℕ) (C : Constraints) (v : ℕ → ℕ) (beta gamma : ℕ) → zeroFactor p n C v beta gamma ≤ n
+unfolding zeroFactor
+zeroFactor-le p n C v beta gamma = first-le _ n
+
 pub zero-factor-labels : (p n : ℕ) (selectors other labels : List ℕ) (v : ℕ → ℕ) (beta gamma : ℕ)
     → zeroFactor p n (lentConstraints n selectors labels) v beta gamma ≡ zeroFactor p n (lentConstraints n other labels) v beta gamma
 unfolding zeroFactor
@@ -110,7 +113,7 @@ module _ (p n : ℕ) (C : Constraints) (v : ℕ → ℕ) where
         at (suc (suc zero)) i h l u = eqb-false (f i 2) 0 (row i l .2) (is-0 u)
         at (suc (suc (suc c))) i h l u = absurd (omega arith)
 
-    zero-at : zeroFactor p n C v beta gamma < n → (k : ℕ) × (k < 3 * n) × Zero beta gamma k
+    pub zero-at : zeroFactor p n C v beta gamma < n → (k : ℕ) × (k < 3 * n) × Cong p (factor (wiredTag p n C) v beta gamma k) 0
     unfolding zeroFactor
     zero-at l = go (one-true _ _ (first-is test 0 n .hit (omega arith)))
       where
@@ -125,31 +128,9 @@ module _ (p n : ℕ) (C : Constraints) (v : ℕ → ℕ) where
             in-two (inl e) = (position n 0 i, omega arith, cong-0 (eqb-true (f i 0) 0 e))
             in-two (inr e) = (position n 1 i, omega arith, cong-0 (eqb-true (f i 1) 0 e))
 
-  -- for each beta, a position has at most one gamma
-  one-gamma : (beta k : ℕ) → AtMost 1 (λ (gamma : ℕ). (gamma < p) × Zero beta gamma k)
-  one-gamma beta k [] u t = omega arith
-  one-gamma beta k (a ∷ []) u t = omega arith
-  one-gamma beta k (a ∷ b ∷ l) u t =
-      let m : ℕ = v k + beta * wiredTag p n C k in
-      absurd (u .0 .0 (cong-lt (t .0 .0) (t .1 .0 .0)
-      (cong-cancel {c = m} {d = m} (cong (omega arith) ⨾ t .0 .1 ⨾ back (t .1 .0 .1) ⨾ cong (omega arith)) (cong refl))))
-
-  few-gammas : (beta m : ℕ) → AtMost m (λ (gamma : ℕ). (gamma < p) × ((k : ℕ) × (k < m) × Zero beta gamma k))
-  few-gammas beta zero = at-most-none (λ a h. absurd (omega (arith, h .1 .1)))
-  few-gammas beta (suc m) = at-most-of (at-most-or (few-gammas beta m) (one-gamma beta m) side) (λ a h. h) (omega arith)
-    where
-      side : (a : ℕ) → (a < p) × ((k : ℕ) × (k < suc m) × Zero beta a k)
-          → ((a < p) × ((k : ℕ) × (k < m) × Zero beta a k)) ⊎ ((a < p) × Zero beta a m)
-      side a h = go (ℕ-discrete (h .1 .0) m)
-        where
-          go : Dec (h .1 .0 ≡ m) → ((a < p) × ((k : ℕ) × (k < m) × Zero beta a k)) ⊎ ((a < p) × Zero beta a m)
-          go (yes e) = inr (h .0, subst (Zero beta a) e (h .1 .2))
-          go (no e) = inl (h .0, (h .1 .0, omega (arith, h .1 .1), h .1 .2))
-
-  pub few-zero-factors : AtMost (3 * n * p) (λ (s : ℕ × ℕ). (s .0 < p) × (s .1 < p) × (zeroFactor p n C v (s .0) (s .1) < n))
-  few-zero-factors =
-      at-most-of
-      (at-most-pairs {P = λ s. (s .0 < p) × (s .1 < p) × (zeroFactor p n C v (s .0) (s .1) < n)} p (3 * n) (λ s h. h .0)
-      (λ b l. at-most-of (few-gammas b (3 * n)) (λ c h. (h .1, zero-at b c (h .2))) (omega arith)))
-      (λ s h. h)
-      (omega arith)
+    pub zero-below : (k : ℕ) → k < 3 * n → Cong p (factor (wiredTag p n C) v beta gamma k) 0 → zeroFactor p n C v beta gamma < n
+    zero-below k l u = go (decLt (zeroFactor p n C v beta gamma) n)
+      where
+        go : Dec (zeroFactor p n C v beta gamma < n) → zeroFactor p n C v beta gamma < n
+        go (yes h) = h
+        go (no h) = absurd (factors-nonzero (omega (arith, zeroFactor-le p n C v beta gamma)) k l u)

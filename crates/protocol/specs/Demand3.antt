@@ -8,12 +8,13 @@
 -- Sound p n C x wire                 how few pairs, alphas and zetas there are for a witness that does not satisfy the circuit
 -- Complete p n C x v beta gamma      what holds for a witness that satisfies it, where no factor of any D(i) is zero
 -- ZeroPair p n C v s                 the pair s is one with a zero factor of some D(i) (document 01: reason 11)
--- Demand3 p n l C                    all of it, what the public inputs bind, and the lengths of the prepared circuit and of the transcript
+-- Demand3 p n l C                    all of it, how many pairs have a zero factor, what the public inputs bind, and the lengths of the prepared circuit and of the transcript
 -- THE THEOREM
 -- demand-3                           Demand3 holds for every admissible p and n and every circuit of n rows with l public inputs
+-- few-zero-pairs                     so at most 3n × p pairs have a zero factor, for a witness that satisfies the circuit
 --
--- A cheat lays three wires, is drawn a pair, chooses z, is drawn an alpha, chooses t, is drawn a zeta. `AtMost K P` says that at most K things satisfy P;
--- `fOf` is F of the circuit, the public inputs, the wires and z. The counts themselves need less than a circuit: `sound` and `complete` below hold of any constraints.
+-- A cheat lays three wires, is drawn a pair, chooses z, is drawn an alpha, chooses t, is drawn a zeta. `AtMost K P` says that at most K things satisfy P,
+-- `Exactly K P` that K do; `fOf` is F of the circuit, the public inputs, the wires and z. The counts themselves need less than a circuit: `sound` and `complete` below hold of any constraints.
 -- Assumes nothing.
 use mathlib.Core.Path.{_≡_, sym, ap₂}
 use mathlib.Core.List.{List}
@@ -21,10 +22,11 @@ use mathlib.Core.Option.{some}
 use Prim.Native.Nat.{ℕ, zero, suc, _*_, _-_, _/_, _%_, _<_}
 use native.Mathlib.Nat.{mod-lt, zero-lt-suc}
 use native.Mathlib.Omega.{arith}
-use Rattle.algebra.specs.Lists.{AtMost}
+use Rattle.algebra.specs.Lists.{AtMost, Exactly}
 use Rattle.algebra.specs.Polynomial.{coef, eval, timesVanishing, Elements, SameP}
 use Rattle.algebra.specs.Congruence.{Cong, cong, _⨾_, back, cong-mod}
 use Rattle.algebra.specs.Counting.{at-most-of}
+use Rattle.algebra.specs.Exact.{exactly-at-most, exactly-of}
 use Rattle.field.specs.Fields.{Admissible, point}
 use Rattle.field.specs.Domain.{Domain, domain}
 use Rattle.transform.specs.Interpolation.{rows-positive}
@@ -33,12 +35,13 @@ use Rattle.circuit.specs.Circuit.{Constraints, Circuit, position, Satisfies}
 use Rattle.circuit.specs.Buffers.{preparedLength, quotientLength, transcriptLength}
 use Rattle.circuit.specs.Positions.{position-column, position-row}
 use Rattle.circuit.specs.PublicBound.{public-bound}
-use Rattle.protocol.specs.Protocol.{fOf, prepared, wiresOf, zOf, tOf, transcript, proved, pass, rowVerdict, accept, pointVerdict, zeroFactor}
+use Rattle.protocol.specs.Protocol.{fOf, prepared, wiresOf, zOf, tOf, transcript, proved, pass, rowVerdict, accept, pointVerdict, zeroFactor, lostGammas, lostPairs}
 use Rattle.protocol.specs.Lengths.{length-F-rows}
 use Rattle.protocol.specs.Layout.{prepared-elements, proved-elements}
 use Rattle.protocol.specs.Pairing.{few-pairs}
 use Rattle.protocol.specs.Challenges.{few-alphas, few-zetas}
-use Rattle.protocol.specs.Conditions.{factors-nonzero, few-zero-factors}
+use Rattle.protocol.specs.Conditions.{factors-nonzero}
+use Rattle.protocol.specs.Lost.{gammas-exact, pairs-exact, lost-most}
 use Rattle.protocol.specs.GrandProduct.{GrandProduct}
 use Rattle.protocol.specs.Completeness.{rows, grand, z-passes, z, z-is, t-holds, laid, accepts}
 
@@ -110,8 +113,10 @@ pub record Demand3 (p n l : ℕ) (C : Constraints) : Type 0 where
   pub soundness : (x : ℕ → ℕ) (wire : ℕ → List ℕ) → ((c : ℕ) → c < 3 → Elements p n (wire c)) → Sound p n C x wire
   -- a witness that satisfies the circuit, and no zero factor of any D(i)
   pub completeness : (x v : ℕ → ℕ) → Satisfies p n C x v → (beta gamma : ℕ) → zeroFactor p n C v beta gamma ≡ n → Complete p n C x v beta gamma
-  -- a zero factor is met for at most 3n × p pairs, whatever the witness
-  pub zero-factors : (v : ℕ → ℕ) → AtMost (3 * n * p) (ZeroPair p n C v)
+  -- a witness that satisfies the circuit: with each beta, the gammas that meet a zero factor are exactly as many as there are different numbers among
+  -- wire value + beta × tag; and the pairs that do are as many as the sum of these counts over all beta
+  pub lost-gammas : (x v : ℕ → ℕ) → Satisfies p n C x v → (beta : ℕ) → beta < p → Exactly (lostGammas p n v beta) (λ gamma. ZeroPair p n C v (beta, gamma))
+  pub lost-pairs : (x v : ℕ → ℕ) → Satisfies p n C x v → Exactly (lostPairs p n v) (ZeroPair p n C v)
   -- preparing writes 8n elements, the prover lays 7n - 3
   pub prepared-long : Elements p (preparedLength n) (prepared p n C)
   pub proved-long : (x v : ℕ → ℕ) (beta gamma alpha : ℕ) (T : List ℕ) → proved p n C x v beta gamma alpha ≡ some T → Elements p (transcriptLength n) T
@@ -174,7 +179,14 @@ module _ (q n : ℕ) (D : Domain (suc q) n) where
         binding = public-bound p n l C K;
         soundness = sound C;
         completeness = complete C;
-        zero-factors = λ v. at-most-of (few-zero-factors p n C v) (λ s h. (h .beta-element, h .gamma-element, h .zero-factor)) (omega arith);
+        lost-gammas = λ x v sat beta b.
+            exactly-of (gammas-exact q n C x v sat beta)
+            (λ gamma h. record { beta-element = b; gamma-element = h .0; zero-factor = h .1 })
+            (λ gamma h. (h .gamma-element, h .zero-factor));
+        lost-pairs = λ x v sat.
+            exactly-of (pairs-exact q n C x v sat)
+            (λ s h. record { beta-element = h .0; gamma-element = h .1 .0; zero-factor = h .1 .1 })
+            (λ s h. (h .beta-element, (h .gamma-element, h .zero-factor)));
         prepared-long = prepared-elements D C;
         proved-long = λ x v beta gamma alpha T. proved-elements D C x v beta gamma alpha T (omega (arith, rows-positive q n D));
       }
@@ -182,3 +194,6 @@ module _ (q n : ℕ) (D : Domain (suc q) n) where
 pub demand-3 : (p n l : ℕ) → Admissible p n → (C : Constraints) → Circuit p n l C → Demand3 p n l C
 demand-3 zero n l A C K = absurd (omega (arith, domain zero n A .prime .two))
 demand-3 (suc q) n l A C K = all-of-it q n (domain (suc q) n A) l C K
+
+pub few-zero-pairs : (p n l : ℕ) (C : Constraints) → Demand3 p n l C → (x v : ℕ → ℕ) → Satisfies p n C x v → AtMost (3 * n * p) (ZeroPair p n C v)
+few-zero-pairs p n l C D x v sat = at-most-of (exactly-at-most (D .lost-pairs x v sat)) (λ s h. h) (lost-most p n v)

@@ -12,6 +12,7 @@ pub mod Pairing
 pub mod Points
 pub mod Challenges
 pub mod Conditions
+pub mod Lost
 pub mod GrandProduct
 pub mod Quotients
 pub mod Completeness

@@ -1,4 +1,5 @@
--- The cases that document 01 marks ★ ("On the sheet above, and at its edges"), and what its program prints, as one table under one statement.
+-- The cases that document 01 marks ★ ("On the sheet above, and at its edges"), what its program prints, and how often 11 applies (document 02), as one table under one
+-- statement.
 --
 -- circuit, publics, witness       the sheet of document 01: prime 17, two rows, no public inputs; beta, gamma, alpha, zeta are 1, 1, 2, 2
 -- lastIs11, rowIs5-7-12           the witness with the last value 11, and with row 1 as 5, 7, 12
@@ -20,7 +21,7 @@ use Prim.Native.String.{String}
 use native.Mathlib.Omega.{arith}
 use lib.Dec.{eqb}
 use borrow.Author.Tests.{eqb-true}
-use Rattle.algebra.specs.Lists.{tab, gathered, All}
+use Rattle.algebra.specs.Lists.{tab, gathered, All, occurs, different}
 use Rattle.algebra.specs.Modular.{powF, first, inverse}
 use Rattle.algebra.specs.Polynomial.{eval, quotientVanishing, reduced}
 use Rattle.field.specs.declared.Answer.{Answer}
@@ -28,7 +29,7 @@ use Rattle.field.specs.Fields.{generator, root, point, multiplier, tag}
 use Rattle.field.specs.Reasons.{answerOf}
 use Rattle.transform.specs.Transform.{interpolation}
 use Rattle.circuit.specs.Circuit.{Constraints, lentConstraints, lentWitness, lentPublic, permutation, gate}
-use Rattle.protocol.specs.Protocol.{runningZ, rowN, rowD, zRows, polyN, polyD, polyL, gatePart, stepPart, startPart, polyF, quotient, preparedPoly, prepared, wiresOf, zOf, tOf, proved, RowVerdict, pass, fails, startIdentity, stepIdentity, rowsFrom, rowVerdict, PointVerdict, accept, pointVerdict, brokenGate, brokenCopy, zeroFactor, witnessReasons}
+use Rattle.protocol.specs.Protocol.{runningZ, rowN, rowD, zRows, polyN, polyD, polyL, gatePart, stepPart, startPart, polyF, quotient, preparedPoly, prepared, wiresOf, zOf, tOf, proved, RowVerdict, pass, fails, startIdentity, stepIdentity, rowsFrom, rowVerdict, PointVerdict, accept, pointVerdict, brokenGate, brokenCopy, zeroFactor, witnessReasons, tagged, lostGammas, lostPairs}
 
 -- THE SHEET
 
@@ -106,6 +107,10 @@ table =
     ∷ record { what = "t"; is = numbers t; should = numbers (9 ∷ 12 ∷ 15 ∷ []) }
     ∷ record { what = "the transcript"; is = perhaps (proved 17 2 circuit publics witness 1 1 2); should = perhaps (some transcriptWorked) }
     ∷ record { what = "zeta 2"; is = atPoint (pointVerdict 17 2 (prepared 17 2 circuit) publics transcriptWorked 1 1 2 2); should = atPoint accept }
+    ∷ record { what = "beta 1: contents + marks"; is = numbers (tab (tagged 17 2 witness 1) 6); should = numbers (3 ∷ 5 ∷ 6 ∷ 3 ∷ 15 ∷ 3 ∷ []) }
+    ∷ record { what = "beta 1 loses 4 gammas"; is = number (lostGammas 17 2 witness 1); should = number 4 }
+    ∷ record { what = "gammas lost for each beta"; is = numbers (tab (lostGammas 17 2 witness) 17); should = numbers (4 ∷ 4 ∷ 5 ∷ 6 ∷ 6 ∷ 4 ∷ 5 ∷ 6 ∷ 4 ∷ 5 ∷ 6 ∷ 6 ∷ 6 ∷ 6 ∷ 6 ∷ 6 ∷ 6 ∷ []) }
+    ∷ record { what = "pairs lost, of 289"; is = number (lostPairs 17 2 witness); should = number 91 }
     ∷ []
 
 -- THE STATEMENT
@@ -116,8 +121,8 @@ pub record Worked : Type 0 where
   pub no-z : (z : ℕ → ℕ) → rowVerdict 17 2 circuit publics rowIs5-7-12 z 1 1 ≢ pass
 
 right : All (λ r. r .is ≡ r .should) table
-unfolding tab gathered powF first inverse quotientVanishing reduced generator root point multiplier tag interpolation lentWitness permutation gate rowN rowD runningZ polyN polyD polyL gatePart stepPart startPart polyF quotient prepared rowsFrom pointVerdict brokenGate brokenCopy zeroFactor
-right = refl & refl & refl & refl & refl & refl & refl & refl & refl & refl & refl & refl & refl & refl & refl & refl & refl & refl & refl & refl & refl & refl & refl & tt
+unfolding tab gathered occurs different powF first inverse quotientVanishing reduced generator root point multiplier tag interpolation lentWitness permutation gate rowN rowD runningZ polyN polyD polyL gatePart stepPart startPart polyF quotient prepared rowsFrom pointVerdict brokenGate brokenCopy zeroFactor tagged lostGammas lostPairs
+right = refl & refl & refl & refl & refl & refl & refl & refl & refl & refl & refl & refl & refl & refl & refl & refl & refl & refl & refl & refl & refl & refl & refl & refl & refl & refl & refl & tt
 
 -- N is 6, 15 and D is 15, 0: the two steps ask for z(1) × 15 to be 6, and to be 0
 abbrev byTests : Bool → Bool → Bool → RowVerdict

@@ -58,20 +58,20 @@ pub checked-of : {p n l : ℕ} {selectors labels witness publics transcript chal
 checked-of {p} {n} {l} {selectors} {labels} A =
     record {
       ready = record {
-        admissible = A .admissible;
-        elements = selectors-right (A .circuit-right);
-        labelled = labels-right (A .circuit-right);
-        publics-below = A .publics-right .below;
+        admissible = A .honest .admissible;
+        elements = selectors-right (A .honest .circuit-right);
+        labelled = labels-right (A .honest .circuit-right);
+        publics-below = A .honest .publics-right .below;
         challenges-long = A .challenges-right .long;
-        scratch-long = A .scratch-long;
+        scratch-long = A .honest .scratch-long;
       };
       front = record {
-        admissible = A .admissible;
-        labelled = labels-right (A .circuit-right);
-        elements = A .witness-right;
-        transcript-long = A .transcript-long;
+        admissible = A .honest .admissible;
+        labelled = labels-right (A .honest .circuit-right);
+        elements = A .honest .witness-right;
+        transcript-long = A .honest .transcript-long;
         challenges-long = A .challenges-right .long;
-        scratch-long = A .scratch-long;
+        scratch-long = A .honest .scratch-long;
         no-zero = λ other. zero-factor-labels p n other selectors labels _ _ _ ∙ A .no-zero;
       };
     }

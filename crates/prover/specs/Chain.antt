@@ -84,7 +84,7 @@ module _ (p n l : ℕ) (selectors labels witness publics transcript challenges s
   v = lentWitness n witness
 
   D : Domain p n
-  D = domain p n (A .admissible)
+  D = domain p n (A .honest .admissible)
 
   -- z on the rows, its polynomial, and the transcript
   grand : (z : List ℕ) × GrandProduct p n (lentConstraints n selectors labels) (lentWitness n witness) (getD challenges 0 0) (getD challenges 1 0) z
@@ -100,7 +100,7 @@ module _ (p n l : ℕ) (selectors labels witness publics transcript challenges s
   is-laid = proved-laid p n C v beta gamma (grand .0) (grand .1 .is) (lentPublic publics) alpha
 
   counted : AnswersCounted p n l selectors labels publics
-  counted = answers-counted p n (A .admissible) l selectors labels publics (A .circuit-right) (A .publics-right)
+  counted = answers-counted p n (A .honest .admissible) l selectors labels publics (A .honest .circuit-right) (A .honest .publics-right)
 
   below : (k : ℕ) → k < 3 → getD challenges k 0 < p
   below k h = all-getD (λ (c : ℕ). c < p) challenges (A .challenges-right .below) k (omega (arith, A .challenges-right .long))
@@ -111,21 +111,21 @@ module _ (p n l : ℕ) (selectors labels witness publics transcript challenges s
   z-lent : evaluation p n (zPart n laid) ≡ grand .0
   z-lent =
       ap (evaluation p n) (z-part n (wiresOf p n v) z (tOf p n C (lentPublic publics) v z beta gamma alpha) wires-long (interpolation-elements D _ .long))
-      ∙ interpolation-undone p n (A .admissible) (grand .0) (grand .1 .elements)
+      ∙ interpolation-undone p n (A .honest .admissible) (grand .0) (grand .1 .elements)
 
   a-bound : (i : ℕ) → i < l → valueAt p n (wirePart n 0 laid) i ≡ lentPublic publics i
   a-bound i h =
-      let few = A .circuit-right .circuit .publics-few in
+      let few = A .honest .circuit-right .circuit .publics-few in
       ap (λ (f : List ℕ). valueAt p n f i)
       (wire-part n (wiresOf p n v) z (tOf p n C (lentPublic publics) v z beta gamma alpha) wires-long 0 (omega arith))
-      ∙ interpolation-one p n (A .admissible) (λ i. v (position n 0 i)) .values i (omega arith)
-      ∙ mod-eq-of-lt (lent-below n (A .witness-right) (position n 0 i) (omega arith))
-      ∙ counted .publics-bound witness (A .witness-right) (A .satisfies) i h
+      ∙ interpolation-one p n (A .honest .admissible) (λ i. v (position n 0 i)) .values i (omega arith)
+      ∙ mod-eq-of-lt (lent-below n (A .honest .witness-right) (position n 0 i) (omega arith))
+      ∙ counted .publics-bound witness (A .honest .witness-right) (A .honest .satisfies) i h
 
   -- the z and the transcript for which the counts speak are these
   rows-pass : (r : RowAnswer) → ChecksRows p n l selectors labels witness publics (grand .0) (beta ∷ gamma ∷ []) r → r .verdict ≡ Pass
   rows-pass r checks =
-      let H = counted .honest-rows witness (A .witness-right) (A .satisfies) beta gamma (below 0 (omega arith)) (below 1 (omega arith)) (A .no-zero) in
+      let H = counted .honest-rows witness (A .honest .witness-right) (A .honest .satisfies) beta gamma (below 0 (omega arith)) (below 1 (omega arith)) (A .no-zero) in
       H .2 r
       (subst (λ (u : List ℕ). ChecksRows p n l selectors labels witness publics u (beta ∷ gamma ∷ []) r)
       (Option·some-injective (grand .0) (H .0) (sym (grand .1 .is) ∙ H .1))
@@ -135,7 +135,7 @@ module _ (p n l : ℕ) (selectors labels witness publics transcript challenges s
       → PointChecks p n l publics (prepared p n C) laid (beta ∷ gamma ∷ alpha ∷ zeta ∷ []) spare s spare'
       → s .verdict ≡ Accept
   point-accepted zeta hz spare spare' lp s checks =
-      let H = counted .honest-point witness (A .satisfies) beta gamma (below 0 (omega arith)) (below 1 (omega arith)) (A .no-zero) alpha (below 2 (omega arith)) in
+      let H = counted .honest-point witness (A .honest .satisfies) beta gamma (below 0 (omega arith)) (below 1 (omega arith)) (A .no-zero) alpha (below 2 (omega arith)) in
       H .2 zeta hz spare spare' lp s
       (subst (λ (T : List ℕ). PointChecks p n l publics (prepared p n C) T (beta ∷ gamma ∷ alpha ∷ zeta ∷ []) spare s spare')
       (Option·some-injective laid (H .0) (sym is-laid ∙ H .1))
@@ -149,7 +149,7 @@ module _ (p n l : ℕ) (selectors labels witness publics transcript challenges s
             rows-pass r (subst (λ (u : List ℕ). ChecksRows p n l selectors labels witness publics u (beta ∷ gamma ∷ []) r) z-lent checks);
         point-accepted = λ written scratch lw ls r written' scratch' prepares zeta hz spare spare' lp s checks.
             let taken : isAccepted r ≡ true =
-            ap isAccepted (prepares .answer ∙ prepare-taken (A .admissible) written scratch (A .circuit-right) lw ls) in
+            ap isAccepted (prepares .answer ∙ prepare-taken (A .honest .admissible) written scratch (A .honest .circuit-right) lw ls) in
             let is : written' ≡ prepared p n C =
             prepares .prepares ∙ ap (λ (b : Bool). cond b (prepared p n C) written) taken in
             point-accepted zeta hz spare spare' lp s

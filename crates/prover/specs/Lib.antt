@@ -2,3 +2,4 @@
 pub mod Promises
 pub mod Buffers
 pub mod Chain
+pub mod Refusals

@@ -17,7 +17,7 @@ use Rattle.transform.specs.Transform.{evaluation, interpolation}
 use Rattle.transform.specs.Passes.{strided, oddWord, passed}
 use Rattle.circuit.specs.Circuit.{Constraints, lentConstraints, lentPublic, lentWitness, permutation, gate}
 use Rattle.circuit.specs.Worked.{publicSelectors, labels}
-use Rattle.protocol.specs.Protocol.{wiredTag, runningZ, rowN, rowD, polyN, polyD, polyL, gatePart, stepPart, startPart, polyF, quotient, preparedPoly, prepared, wiresOf, proved}
+use Rattle.protocol.specs.Protocol.{wiredTag, runningZ, rowN, rowD, polyN, polyD, polyL, gatePart, stepPart, startPart, polyF, quotient, preparedPoly, prepared, wiresOf, proved, zeroFactor}
 use Rattle.protocol.specs.Worked.{circuit, publics, witness, zWorked, Case, number, inverted, numbers, perhaps, _&_}
 use Rattle.opening.specs.Opening.{polynomialOf, less, named, evaluationsOf, mixtureOf}
 use Rattle.opening.specs.Worked as opened
@@ -118,6 +118,7 @@ table =
     ∷ record { what = "(z - 1) × L"; is = numbers (reduced 17 3 (startPart 17 2 z)); should = numbers (16 ∷ 0 ∷ 1 ∷ []) }
     ∷ record { what = "F"; is = numbers (reduced 17 5 F); should = numbers (8 ∷ 5 ∷ 11 ∷ 12 ∷ 15 ∷ []) }
     ∷ record { what = "the remainder"; is = numbers (reduced 17 2 (remainderVanishing 2 3 F)); should = numbers (0 ∷ 0 ∷ []) }
+    ∷ record { what = "beta 1: the row that 11 names for each gamma, 2 for none"; is = numbers (tab (zeroFactor 17 2 circuit witness 1) 17); should = numbers (2 ∷ 2 ∷ 1 ∷ 2 ∷ 2 ∷ 2 ∷ 2 ∷ 2 ∷ 2 ∷ 2 ∷ 2 ∷ 0 ∷ 0 ∷ 2 ∷ 0 ∷ 2 ∷ 2 ∷ []) }
     ∷ record { what = "meter: qL 0, qC 5798, public sum 5798"; is = number (meterGate 0 5798); should = number 0 }
     ∷ record { what = "meter: qL 1, qC 0, public sum 5798"; is = number (meterGate 1 0); should = number 2013264921 }
     ∷ record { what = "public row: selectors and wired tags as polynomials"; is = numbers (prepared 17 2 bound); should = numbers (1 ∷ 0 ∷ 9 ∷ 8 ∷ 8 ∷ 9 ∷ 0 ∷ 0 ∷ 0 ∷ 0 ∷ 16 ∷ 2 ∷ 6 ∷ 14 ∷ 12 ∷ 4 ∷ []) }
@@ -140,5 +141,5 @@ table =
     ∷ []
 
 pub by-hand : All (λ r. r .is ≡ r .should) table
-unfolding tab gathered powF first inverse reduced quotientVanishing remainderVanishing generator root point multiplier tag evaluation interpolation strided passed lentWitness permutation rowN rowD runningZ polyN polyD polyL gatePart stepPart startPart polyF quotient prepared gate polynomialOf evaluationsOf mixtureOf
-by-hand = refl & refl & refl & refl & refl & refl & refl & refl & refl & refl & refl & refl & refl & refl & refl & refl & refl & refl & refl & refl & refl & refl & refl & refl & refl & refl & refl & refl & refl & refl & refl & refl & refl & refl & refl & refl & refl & refl & refl & refl & refl & refl & refl & refl & refl & refl & refl & refl & refl & refl & refl & refl & refl & refl & tt
+unfolding tab gathered powF first inverse reduced quotientVanishing remainderVanishing generator root point multiplier tag evaluation interpolation strided passed lentWitness permutation rowN rowD runningZ polyN polyD polyL gatePart stepPart startPart polyF quotient prepared gate zeroFactor polynomialOf evaluationsOf mixtureOf
+by-hand = refl & refl & refl & refl & refl & refl & refl & refl & refl & refl & refl & refl & refl & refl & refl & refl & refl & refl & refl & refl & refl & refl & refl & refl & refl & refl & refl & refl & refl & refl & refl & refl & refl & refl & refl & refl & refl & refl & refl & refl & refl & refl & refl & refl & refl & refl & refl & refl & refl & refl & refl & refl & refl & refl & refl & tt

@@ -8,8 +8,11 @@ use Rattle.exports.proofs.guppyspoon_deposit.Tie as tie
 deposit-requires : tie.Need-deposit-requires
 deposit-requires c κs = search needs
 
-put-length-requires : tie.Need-put-length-requires
-put-length-requires c κs = omega (arith, deposit-fits _ _ _ _ (c .before .before .before .before .deposit .ensures))
+cast-put-count : tie.Need-cast-put-count
+cast-put-count c = omega (arith, deposit-fits _ _ _ _ (c .before .before .before .before .deposit .ensures))
+
+put-count-requires : tie.Need-put-count-requires
+put-count-requires c κs = search needs
 
 same-length : tie.Need-same-length
 same-length c = search needs
@@ -22,4 +25,4 @@ returns c = search needs
 
 pub guppyspoon-deposit-spec : {M : Type 1} → statement M
 guppyspoon-deposit-spec =
-    tie.close (tie.spec deposit-requires put-length-requires same-length same-length-2 returns)
+    tie.close (tie.spec deposit-requires cast-put-count put-count-requires same-length same-length-2 returns)

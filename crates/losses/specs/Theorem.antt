@@ -1,0 +1,47 @@
+-- What the count of `lost_gammas` is worth: for a witness that satisfies its circuit it is the number of gammas that `prove` refuses with 11.
+--
+-- lost-taken        no reason applies to 3n elements and one beta below p
+-- count-refused     lent the witness of an honest prover and a beta, the call's count is exactly the number of gammas that `prove` refuses with 11, for every alpha
+--
+-- A call's answer is any that keeps the call's promise: LosesGammas, and Proves in RefusedBy11.
+-- Assumes nothing.
+use mathlib.Core.Path.{_≡_, refl, sym, ap, _∙_, subst}
+use mathlib.Core.Bool.{Bool, true, cond}
+use mathlib.Core.List.{List, [], _∷_, _++_}
+use Prim.Native.Nat.{ℕ, _<_}
+use native.Mathlib.Omega.{arith}
+use lib.ListN.{length}
+use Rattle.algebra.specs.Lists.{Exactly}
+use Rattle.algebra.specs.Polynomial.{Elements}
+use Rattle.algebra.specs.Tables.{all-append}
+use Rattle.field.specs.Fields.{Admissible}
+use Rattle.field.specs.Lent.{lent-numbers, lent-taken}
+use Rattle.field.specs.Reasons.{answerOf, isAccepted, lentReasons, badElement}
+use Rattle.field.specs.ReasonLaws.{taken, both-taken, elements-none}
+use Rattle.circuit.specs.Circuit.{lentWitness}
+use Rattle.circuit.specs.Buffers.{witnessLength}
+use Rattle.protocol.specs.Protocol.{lostGammas}
+use Rattle.witnesses.specs.Accepted.{Honest}
+use Rattle.prover.specs.Refusals.{RefusedBy11, refusals-counted}
+use Rattle.losses.specs.declared.Counted.{Counted}
+use Rattle.losses.specs.Losses.{lostDue, lostReasons, LosesGammas}
+
+pub lost-taken : {p n : ℕ} → Admissible p n → {witness challenges : List ℕ} → Elements p (witnessLength n) witness → Elements p 1 challenges
+    → answerOf (lostReasons p n witness challenges) ≡ record { number = 0; detail = 0 }
+lost-taken {p} {n} A {witness} {challenges} w c =
+    let long : List ℕ = length witness ∷ length challenges ∷ [] in
+    both-taken (lentReasons p n 0 long (lostDue n)) (badElement p (witness ++ challenges) ∷ []) (lent-numbers p n 0 long (lostDue n))
+    (lent-taken (record { admissible = A; publics-few = omega arith; lengths = cc (w .long, c .long) }))
+    (taken (badElement p (witness ++ challenges) ∷ []) (elements-none p (witness ++ challenges) (all-append (λ (a : ℕ). a < p) witness challenges (w .below) (c .below)), tt))
+
+pub count-refused : {p n l : ℕ} {selectors labels witness publics transcript scratch : List ℕ}
+    → Honest p n l selectors labels witness publics transcript scratch
+    → (beta : ℕ) → beta < p → (r : Counted) → LosesGammas p n witness (beta ∷ []) r
+    → (alpha : ℕ) → alpha < p → Exactly (r .count) (λ gamma. RefusedBy11 p n l selectors labels witness publics transcript scratch alpha (beta, gamma))
+count-refused {p} {n} {l} {selectors} {labels} {witness} {publics} {transcript} {scratch} H beta hβ r L alpha hα =
+    let drawn : Elements p 1 (beta ∷ []) = record { long = refl; below = (hβ, tt) } in
+    let yes : isAccepted (r .answer) ≡ true = ap isAccepted (L .answer ∙ lost-taken (H .admissible) (H .witness-right) drawn) in
+    let count : r .count ≡ lostGammas p n (lentWitness n witness) beta =
+    L .count ∙ ap (λ (b : Bool). cond b (lostGammas p n (lentWitness n witness) beta) 0) yes in
+    subst (λ (K : ℕ). Exactly K (λ gamma. RefusedBy11 p n l selectors labels witness publics transcript scratch alpha (beta, gamma))) (sym count)
+    (refusals-counted p n l selectors labels witness publics transcript scratch alpha hα H .gammas beta hβ)
