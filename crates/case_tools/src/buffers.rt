@@ -25,13 +25,18 @@ pub fn within(xs: &[u32], n: usize) -> usize
     if n < xs.len() { n } else { xs.len() }
 }
 
-// Distinct numbers, upward from `first`.
-pub fn mark(xs: &mut [u32], first: u32) {
+// Numbers from `first` on, each `step` more than the one before.
+pub fn progression(xs: &mut [u32], first: u32, step: u32) {
     let mut x = first;
     for i in 0..xs.len() {
         xs[i] = x;
-        x = std::num::wrapping_add_u32(x, 1);
+        x = std::num::wrapping_add_u32(x, step);
     }
+}
+
+// Distinct numbers, upward from `first`.
+pub fn mark(xs: &mut [u32], first: u32) {
+    progression(xs, first, 1);
 }
 
 // Whether `mark` would change nothing.

@@ -1,11 +1,11 @@
 -- How often 11 applies, for a witness that satisfies the constraints: exactly (document 02, request 6).
 --
+-- lost-most          lostPairs is at most 3n × p
 -- wired-own          the step from the wired tags to the positions' own: where copies agree, wire value + beta × wired tag of position k is
 --                    wire value + beta × tag of the position that the permutation leads to from k
--- zero-tagged        so the factor of D at k is zero exactly where gamma is minus the number `tagged` of that position
+-- factor-tagged      so the factor of D at k is the number `tagged` of that position + gamma, modulo p
 -- gammas-exact       with each beta, exactly lostGammas gammas below p meet 11
 -- pairs-exact        exactly lostPairs pairs do
--- lost-most          at most 3n × p
 --
 -- The permutation reaches every position, so the gammas that meet 11 are the negatives of the numbers `tagged` of all positions; negation is one-to-one.
 -- Assumes nothing.
@@ -37,20 +37,20 @@ lost-most p n v =
 
 -- THE STEP FROM WIRED TAGS TO OWN TAGS
 
-module _ (p n : ℕ) (C : Constraints) (x v : ℕ → ℕ) (sat : Satisfies p n C x v) where
-  abbrev σ : ℕ → ℕ
-  σ = permutation (3 * n) (C .label)
+abbrev σ : ℕ → Constraints → ℕ → ℕ
+σ n C = permutation (3 * n) (C .label)
 
+module _ (p n : ℕ) (C : Constraints) (x v : ℕ → ℕ) (sat : Satisfies p n C x v) where
   pub wired-own : (beta k : ℕ) → k < 3 * n
       → v k + beta * wiredTag p n C k ≡ v (permutation (3 * n) (C .label) k) + beta * tag p n (permutation (3 * n) (C .label) k)
   wired-own beta k l =
       ap (λ (a : ℕ). a + beta * wiredTag p n C k)
-      (sat .copies k (σ k) l (permutation-perm (3 * n) (C .label) .into k l) (sym (permutation-label (3 * n) (C .label) k l)))
+      (sat .copies k (σ n C k) l (permutation-perm (3 * n) (C .label) .into k l) (sym (permutation-label (3 * n) (C .label) k l)))
 
-  pub zero-tagged : (beta gamma k : ℕ) → k < 3 * n
+  pub factor-tagged : (beta gamma k : ℕ) → k < 3 * n
       → Cong p (factor (wiredTag p n C) v beta gamma k) (tagged p n v beta (permutation (3 * n) (C .label) k) + gamma)
   unfolding tagged
-  zero-tagged beta gamma k l = cong (ap (λ (a : ℕ). a + gamma) (wired-own beta k l)) ⨾ cong-add (back cong-mod) (cong refl)
+  factor-tagged beta gamma k l = cong (ap (λ (a : ℕ). a + gamma) (wired-own beta k l)) ⨾ cong-add (back cong-mod) (cong refl)
 
 -- THE COUNTS
 
@@ -72,34 +72,35 @@ module _ (q n : ℕ) (C : Constraints) (x v : ℕ → ℕ) (sat : Satisfies (suc
     abbrev Lost : ℕ → Type 0
     Lost gamma = (gamma < p) × (zeroFactor p n C v beta gamma < n)
 
+    abbrev Number : ℕ → Type 0
+    Number y = In y (tab numbers (3 * n))
+
     -- minus a number of the list meets 11, at the position from which the permutation leads there
-    to : (y : ℕ) → In y (tab (tagged (suc q) n v beta) (3 * n))
-        → (q * y % suc q < suc q) × (zeroFactor (suc q) n C v beta (q * y % suc q) < n)
+    to : (y : ℕ) → Number y → Lost (minus y)
     to y i =
         let at = tab-in numbers (3 * n) y i in
-        let from = perm-onto (3 * n) (permutation (3 * n) (C .label)) (permutation-perm (3 * n) (C .label)) (at .0) (at .1) in
-        let same : numbers (permutation (3 * n) (C .label) (from .0)) ≡ y = ap numbers (from .2) ∙ sym (at .2) in (
+        let from = perm-onto (3 * n) (σ n C) (permutation-perm (3 * n) (C .label)) (at .0) (at .1) in
+        let same : numbers (σ n C (from .0)) ≡ y = ap numbers (from .2) ∙ sym (at .2) in (
           mod-lt _ (zero-lt-suc q),
           zero-below p n C v beta (minus y) (from .0) (from .1)
-              (zero-tagged p n C x v sat beta (minus y) (from .0) (from .1) ⨾ cong-add (cong same) cong-mod ⨾ cong-neg y),
+              (factor-tagged p n C x v sat beta (minus y) (from .0) (from .1) ⨾ cong-add (cong same) cong-mod ⨾ cong-neg y),
         )
 
-    apart : (y z : ℕ) → In y (tab (tagged (suc q) n v beta) (3 * n)) → In z (tab (tagged (suc q) n v beta) (3 * n)) → q * y % suc q ≡ q * z % suc q → y ≡ z
-    apart y z i j e =
-        let a = tab-in numbers (3 * n) y i in
-        let b = tab-in numbers (3 * n) z j in
-        cong-lt (subst (λ (u : ℕ). u < p) (sym (a .2)) (tagged-lt beta (a .0))) (subst (λ (u : ℕ). u < p) (sym (b .2)) (tagged-lt beta (b .0)))
-        (cong-cancel {c = q * y} {d = q * z} (cong-neg y ⨾ back (cong-neg z)) (record { same = e }))
+    number-lt : (y : ℕ) → Number y → y < p
+    number-lt y i = let at = tab-in numbers (3 * n) y i in subst (λ (u : ℕ). u < p) (sym (at .2)) (tagged-lt beta (at .0))
 
-    onto : (gamma : ℕ) → (gamma < suc q) × (zeroFactor (suc q) n C v beta gamma < n)
-        → (y : ℕ) × In y (tab (tagged (suc q) n v beta) (3 * n)) × (q * y % suc q ≡ gamma)
+    apart : (y z : ℕ) → Number y → Number z → minus y ≡ minus z → y ≡ z
+    apart y z i j e =
+        cong-lt (number-lt y i) (number-lt z j) (cong-cancel {c = q * y} {d = q * z} (cong-neg y ⨾ back (cong-neg z)) (record { same = e }))
+
+    -- a gamma that meets 11 at position k is minus the number of where the permutation leads from k
+    onto : (gamma : ℕ) → Lost gamma → (y : ℕ) × Number y × (minus y ≡ gamma)
     onto gamma h =
         let zero = zero-at p n C v beta gamma (h .1) in
-        let j : ℕ = permutation (3 * n) (C .label) (zero .0) in
-        let y : ℕ = numbers j in
-        let sum : Cong p (y + gamma) 0 = back (zero-tagged p n C x v sat beta gamma (zero .0) (zero .1)) ⨾ zero .2 in (
+        let y : ℕ = numbers (σ n C (zero .0)) in
+        let sum : Cong p (y + gamma) 0 = back (factor-tagged p n C x v sat beta gamma (zero .0) (zero .1)) ⨾ zero .2 in (
           y,
-          in-tab numbers (3 * n) j (permutation-perm (3 * n) (C .label) .into (zero .0) (zero .1)),
+          in-tab numbers (3 * n) (σ n C (zero .0)) (permutation-perm (3 * n) (C .label) .into (zero .0) (zero .1)),
           cong-lt (mod-lt _ (zero-lt-suc q)) (h .0)
               (cong-mod
               ⨾ cong-cancel {a = q * y} {b = gamma} {c = y} {d = y} (cong (omega arith) ⨾ cong-neg y ⨾ back sum ⨾ cong (omega arith)) (cong refl)),

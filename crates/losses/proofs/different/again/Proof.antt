@@ -4,7 +4,6 @@ use mathlib.Core.List.{List}
 use Prim.Native.Nat.{ℕ, _-_, _≤_, _<_}
 use native.Mathlib.Omega.{arith}
 use lib.ListN.{length, getD}
-use borrow.Author.Needs.{needs}
 use Rattle.losses.proofs.Links.{Walked, links-long, link-lt, walk-start, walk-on, walk-met, walk-end}
 use Rattle.losses.proofs.different.again.Statement.{statement}
 use Rattle.losses.proofs.different.again.Tie as tie

@@ -1,16 +1,16 @@
--- `case_tools::buffers::mark` is safe and ends: the words are written in turn. Assumes nothing.
+-- `case_tools::buffers::progression` is safe and ends: the words are written in turn. Assumes nothing.
 use mathlib.Core.Path.{_≡_}
 use Prim.Native.Nat.{_-_, _≤_}
 use lib.ListN.{length}
 use borrow.Author.Needs.{needs}
-use Rattle.case_tools.proofs.buffers.mark.Statement.{statement}
-use Rattle.case_tools.proofs.buffers.mark.Tie as tie
+use Rattle.case_tools.proofs.buffers.progression.Statement.{statement}
+use Rattle.case_tools.proofs.buffers.progression.Tie as tie
 
 abbrev Inv-loop : tie.InvT-loop
-Inv-loop xs₀ first x₀ i₀ i-end xs x i = (i-end ≤ length xs₀) × (length xs ≡ length xs₀)
+Inv-loop xs₀ first step x₀ i₀ i-end xs x i = (i-end ≤ length xs₀) × (length xs ≡ length xs₀)
 
 abbrev μ-loop : tie.MeasureT-loop
-μ-loop xs₀ first x₀ i₀ i-end xs x i = i-end - i
+μ-loop xs₀ first step x₀ i₀ i-end xs x i = i-end - i
 
 loop-holds : tie.Need-loop-holds Inv-loop μ-loop
 loop-holds c = search needs
@@ -39,8 +39,8 @@ same-length c = search needs
 returns : tie.Need-returns Inv-loop μ-loop
 returns c = search needs
 
-pub mark-spec : {M : Type 1} → statement M
-mark-spec =
+pub progression-spec : {M : Type 1} → statement M
+progression-spec =
     tie.close
     (tie.spec
     Inv-loop
