@@ -9,7 +9,7 @@ use mathlib.Core.List.{List, [], _∷_, _++_}
 use mathlib.Core.Option.{none, some}
 use Prim.Native.Nat.{ℕ, _+_, _*_, _%_, _^_}
 use lib.ListN.{getD}
-use Rattle.algebra.specs.Lists.{tab, gathered, All}
+use Rattle.algebra.specs.Lists.{tab, gathered, All, occurs, different}
 use Rattle.algebra.specs.Modular.{powF, first, inverse}
 use Rattle.algebra.specs.Polynomial.{coef, eval, addP, scaleP, mulP, linear, dilate, reduced, quotientVanishing, remainderVanishing}
 use Rattle.field.specs.Fields.{generator, root, point, multiplier, tag}
@@ -17,8 +17,8 @@ use Rattle.transform.specs.Transform.{evaluation, interpolation}
 use Rattle.transform.specs.Passes.{strided, oddWord, passed}
 use Rattle.circuit.specs.Circuit.{Constraints, lentConstraints, lentPublic, lentWitness, permutation, gate}
 use Rattle.circuit.specs.Worked.{publicSelectors, labels}
-use Rattle.protocol.specs.Protocol.{wiredTag, runningZ, rowN, rowD, polyN, polyD, polyL, gatePart, stepPart, startPart, polyF, quotient, preparedPoly, prepared, wiresOf, proved, zeroFactor}
-use Rattle.protocol.specs.Worked.{circuit, publics, witness, zWorked, Case, number, inverted, numbers, perhaps, _&_}
+use Rattle.protocol.specs.Protocol.{wiredTag, runningZ, rowN, rowD, polyN, polyD, polyL, gatePart, stepPart, startPart, polyF, quotient, preparedPoly, prepared, wiresOf, proved, zeroFactor, tagged, lostGammas}
+use Rattle.protocol.specs.Worked.{circuit, publics, witness, rowIs5-7-12, zWorked, Case, number, inverted, numbers, perhaps, _&_}
 use Rattle.opening.specs.Opening.{polynomialOf, less, named, evaluationsOf, mixtureOf}
 use Rattle.opening.specs.Worked as opened
 
@@ -119,6 +119,9 @@ table =
     ∷ record { what = "F"; is = numbers (reduced 17 5 F); should = numbers (8 ∷ 5 ∷ 11 ∷ 12 ∷ 15 ∷ []) }
     ∷ record { what = "the remainder"; is = numbers (reduced 17 2 (remainderVanishing 2 3 F)); should = numbers (0 ∷ 0 ∷ []) }
     ∷ record { what = "beta 1: the row that 11 names for each gamma, 2 for none"; is = numbers (tab (zeroFactor 17 2 circuit witness 1) 17); should = numbers (2 ∷ 2 ∷ 1 ∷ 2 ∷ 2 ∷ 2 ∷ 2 ∷ 2 ∷ 2 ∷ 2 ∷ 2 ∷ 0 ∷ 0 ∷ 2 ∷ 0 ∷ 2 ∷ 2 ∷ []) }
+    ∷ record { what = "row 1 as 5, 7, 12, beta 1: the row for each gamma"; is = numbers (tab (zeroFactor 17 2 circuit rowIs5-7-12 1) 17); should = numbers (2 ∷ 1 ∷ 2 ∷ 2 ∷ 2 ∷ 2 ∷ 2 ∷ 2 ∷ 2 ∷ 2 ∷ 2 ∷ 0 ∷ 0 ∷ 2 ∷ 0 ∷ 1 ∷ 2 ∷ []) }
+    ∷ record { what = "row 1 as 5, 7, 12, beta 1: number + tag of each place"; is = numbers (tab (tagged 17 2 rowIs5-7-12 1) 6); should = numbers (3 ∷ 4 ∷ 6 ∷ 4 ∷ 15 ∷ 3 ∷ []) }
+    ∷ record { what = "row 1 as 5, 7, 12, beta 1: how many are different"; is = number (lostGammas 17 2 rowIs5-7-12 1); should = number 4 }
     ∷ record { what = "meter: qL 0, qC 5798, public sum 5798"; is = number (meterGate 0 5798); should = number 0 }
     ∷ record { what = "meter: qL 1, qC 0, public sum 5798"; is = number (meterGate 1 0); should = number 2013264921 }
     ∷ record { what = "public row: selectors and wired tags as polynomials"; is = numbers (prepared 17 2 bound); should = numbers (1 ∷ 0 ∷ 9 ∷ 8 ∷ 8 ∷ 9 ∷ 0 ∷ 0 ∷ 0 ∷ 0 ∷ 16 ∷ 2 ∷ 6 ∷ 14 ∷ 12 ∷ 4 ∷ []) }
@@ -141,5 +144,5 @@ table =
     ∷ []
 
 pub by-hand : All (λ r. r .is ≡ r .should) table
-unfolding tab gathered powF first inverse reduced quotientVanishing remainderVanishing generator root point multiplier tag evaluation interpolation strided passed lentWitness permutation rowN rowD runningZ polyN polyD polyL gatePart stepPart startPart polyF quotient prepared gate zeroFactor polynomialOf evaluationsOf mixtureOf
-by-hand = refl & refl & refl & refl & refl & refl & refl & refl & refl & refl & refl & refl & refl & refl & refl & refl & refl & refl & refl & refl & refl & refl & refl & refl & refl & refl & refl & refl & refl & refl & refl & refl & refl & refl & refl & refl & refl & refl & refl & refl & refl & refl & refl & refl & refl & refl & refl & refl & refl & refl & refl & refl & refl & refl & refl & tt
+unfolding tab gathered occurs different powF first inverse reduced quotientVanishing remainderVanishing generator root point multiplier tag evaluation interpolation strided passed lentWitness permutation rowN rowD runningZ polyN polyD polyL gatePart stepPart startPart polyF quotient prepared gate zeroFactor tagged lostGammas polynomialOf evaluationsOf mixtureOf
+by-hand = refl & refl & refl & refl & refl & refl & refl & refl & refl & refl & refl & refl & refl & refl & refl & refl & refl & refl & refl & refl & refl & refl & refl & refl & refl & refl & refl & refl & refl & refl & refl & refl & refl & refl & refl & refl & refl & refl & refl & refl & refl & refl & refl & refl & refl & refl & refl & refl & refl & refl & refl & refl & refl & refl & refl & refl & refl & refl & tt
