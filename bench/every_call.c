@@ -231,6 +231,23 @@ static void every_reason(void)
     EXPECT("reason 14", GUPPYSPOON_PREPARE_WORDS, GUPPYSPOON_BAD_PUBLIC_ROW, 0);
 }
 
+/* 97, whatever else is lent: the calls that take new sheets refuse it, and reading takes it. */
+static void retired_prime(void)
+{
+    static const char retired[] = "97,2,0\n0,0,96,1,0,0,1,2\n1,1,96,0,0,2,2,3\n2,3,6\n6,6,12\n1,1,2,2\n";
+    static const char refused[] = "refused,16,0\n";
+    guppyspoon_prove(97, 64, L, LENT(selectors), LENT(labels), LENT(witness), LENT(publics), LENT(transcript), LENT(three), LENT(scratch),
+                     LENT(answer));
+    EXPECT("prove, reason 16", GUPPYSPOON_PROVE_WORDS, GUPPYSPOON_RETIRED_PRIME, 0);
+    guppyspoon_deposit(SHEET(retired), LENT(text), LENT(answer));
+    EXPECT("deposit over 97", GUPPYSPOON_DEPOSIT_WORDS, GUPPYSPOON_ACCEPTED, 0, sizeof refused - 1);
+    expect_that("deposit, reason 16", memcmp(text, refused, sizeof refused) == 0);
+    join(sheet, retired, GUPPYSPOON_JOINED_LENGTH);
+    EXPECT("join, reason 16", GUPPYSPOON_JOIN_WORDS, GUPPYSPOON_RETIRED_PRIME, 0, 0);
+    read(SHEET(retired));
+    EXPECT("read over 97", GUPPYSPOON_READ_WORDS, GUPPYSPOON_ACCEPTED, 0, 97, N, L);
+}
+
 /* So many rows of a prime are taken, and twice as many are not. Only labels are lent: all zeros. */
 static void most_rows(const char *name, uint32_t p, uint32_t n)
 {
@@ -284,6 +301,7 @@ int main(void)
     every_gamma();
     every_verdict();
     every_reason();
+    retired_prime();
     most_rows("most rows of 17", 17, GUPPYSPOON_MOST_ROWS_17);
     most_rows("most rows of 97", 97, GUPPYSPOON_MOST_ROWS_97);
     most_rows("most rows of 2013265921", LARGEST, GUPPYSPOON_MOST_ROWS_2013265921);

@@ -12,7 +12,8 @@
  * What the caller sees to: no buffer overlaps one that is written, no pointer is null, even with length 0, pointers to words are aligned as words,
  * and each buffer has the length that is passed with it. A wrong length is no fault of this kind: it is refused (reason 6).
  *
- * p is a prime: 17, 97 or 2013265921. An element is a number below p. n is the number of rows, a power of two, from 2 to the greatest for its prime.
+ * p is a prime: 17, 97 or 2013265921. 97 is retired: guppyspoon_prove, guppyspoon_deposit and guppyspoon_join take no new sheets in it (reason 16), and
+ * every other call takes it as the other two, so that what is filed in it can be read, prepared, opened and checked. An element is a number below p. n is the number of rows, a power of two, from 2 to the greatest for its prime.
  * l is the number of public inputs, 0 to n. A row below l must be a public row: its qL is 1 and its other selectors are 0, so that its gate says that
  * a is the public input. Selectors and witness stand column after column. A polynomial is its coefficients, lowest first.
  * "Buffers" below are in the order in which reason 6 counts them, from 1; `answer` is not counted. Those marked "written" may hold anything
@@ -117,7 +118,8 @@ enum guppyspoon_reason {
     GUPPYSPOON_BAD_LIST = 12,         /* a list of polynomials is empty or longer than 13 */
     GUPPYSPOON_BAD_NUMBER = 13,       /* the number of a polynomial is above 12; detail: the first such place in the list, from 0 */
     GUPPYSPOON_BAD_PUBLIC_ROW = 14,   /* a row below l is no public row; detail: the lowest such row */
-    GUPPYSPOON_UNLIKE_SHEETS = 15     /* two sheets differ in p or in n */
+    GUPPYSPOON_UNLIKE_SHEETS = 15,    /* two sheets differ in p or in n */
+    GUPPYSPOON_RETIRED_PRIME = 16     /* p is 97, and the call takes new sheets */
 };
 
 /* Word 2 of the answer of guppyspoon_check_rows. */
@@ -233,7 +235,7 @@ void guppyspoon_check_opening(uint32_t p, uint32_t n, const uint32_t *prepared, 
  *
  * Buffers: 1 selectors, 5n; 2 labels, 3n; 3 witness, 3n; 4 publics, l; 5 transcript, 7n - 3, written; 6 challenges (beta, gamma, alpha), 3;
  *   7 scratch, 16n, written.
- * Reasons: 2, 3, 4, 6, 7 (selectors, witness, publics, challenges end to end), 8, 14, 9, 10, 11.
+ * Reasons: 2, 16, 3, 4, 6, 7 (selectors, witness, publics, challenges end to end), 8, 14, 9, 10, 11.
  * Answer: number, detail.
  */
 void guppyspoon_prove(uint32_t p, uint32_t n, uint32_t l, const uint32_t *selectors, size_t selectors_length, const uint32_t *labels,
@@ -241,8 +243,8 @@ void guppyspoon_prove(uint32_t p, uint32_t n, uint32_t l, const uint32_t *select
                       uint32_t *transcript, size_t transcript_length, const uint32_t *challenges, size_t challenges_length, uint32_t *scratch,
                       size_t scratch_length, uint32_t *answer, size_t answer_length);
 
-/* The gammas that are lost with a beta: how many of the p gammas guppyspoon_prove refuses with reason 11, for a witness that satisfies its circuit.
- * The others it takes. Counted are the different numbers among witness + beta * tag, modulo p, over the 3n positions. The tag of a position is 1,
+/* The gammas that are lost with a beta: how many of the p gammas guppyspoon_prove refuses with reason 11, for a witness that satisfies its circuit,
+ * over 17 and 2013265921; the others it takes. Over 97, how many of them meet the condition of reason 11. Counted are the different numbers among witness + beta * tag, modulo p, over the 3n positions. The tag of a position is 1,
  * g or g * g, for the columns a, b, c, times the point of its row; g is 3 for 17, 5 for 97, 31 for 2013265921. Whether the witness satisfies a
  * circuit is not looked at.
  *
@@ -264,8 +266,8 @@ void guppyspoon_read(const uint8_t *sheet, size_t sheet_length, uint32_t *select
                      size_t labels_length, uint32_t *witness, size_t witness_length, uint32_t *publics, size_t publics_length,
                      uint32_t *challenges, size_t challenges_length, uint32_t *answer, size_t answer_length);
 
-/* The text that the program `deposit` prints of a sheet, zeros behind. A sheet that is refused has a text too (`refused,`, number, detail): the
- * call is accepted.
+/* The text that the program `deposit` prints of a sheet, zeros behind. A sheet that is refused has a text too (`refused,`, number, detail; the
+ * reasons are 1, 2, 16, 3, 4, 5, 7, 8, 14, 9, 10, 11): the call is accepted.
  *
  * Buffers: 1 sheet, any number of bytes; 2 text, 20,480 bytes, written.
  * Reasons: 6 (detail 2).
@@ -279,8 +281,8 @@ void guppyspoon_deposit(const uint8_t *sheet, size_t sheet_length, uint8_t *text
  *
  * Buffers: 1 one, the first sheet, any number of bytes (above 65,536 gives reason 1); 2 two, the second, the same; 3 joined, 65,536 bytes, written.
  *   `one` and `two` may be the same sheet.
- * Reasons: of the first sheet 1, 2, 3, 4, 5, 6 (detail 3), 7, 8, 14; then of the second 1, 2, 3, 4, 5, 7, 8, 14, each as at guppyspoon_read; then 15;
- *   then 3 (2n is above the greatest for p, or above 256).
+ * Reasons: of the first sheet 1, 2, 16, 3, 4, 5, 6 (detail 3), 7, 8, 14; then of the second 1, 2, 16, 3, 4, 5, 7, 8, 14, each but 16 as at
+ *   guppyspoon_read; then 15; then 3 (2n is above the greatest for p, or above 256).
  * Answer: number, detail, the bytes of the joined sheet (0 if refused).
  */
 void guppyspoon_join(const uint8_t *one, size_t one_length, const uint8_t *two, size_t two_length, uint8_t *joined, size_t joined_length,

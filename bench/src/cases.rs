@@ -4,6 +4,7 @@ use crate::numbers::*;
 use crate::opening_cases::{relist, Opening};
 use crate::openings::POLYNOMIALS;
 use crate::plain;
+use crate::polynomials::add_product;
 use crate::random::Random;
 use crate::rows;
 
@@ -87,7 +88,7 @@ impl Circuit {
         circuit
     }
 
-    // The same, but the filling has no zero denominator: the prover takes it.
+    // The same over a prime that may be proved with, but the filling has no zero denominator: the prover takes it.
     pub fn proved(r: &mut Random, p: u32, n: u32) -> Circuit {
         loop {
             let circuit = Circuit::new(r, p, n);
@@ -143,13 +144,14 @@ impl Circuit {
         written
     }
 
-    // The transcript of the plain implementation; zeros where it refuses.
+    // The transcript of the plain implementation, over a retired prime too; zeros where it refuses.
     fn transcript(&self) -> Vec<u32> {
         let n = self.n as usize;
         let mut transcript = vec![0; 7 * n - 3];
         let scratch = &mut vec![0; 16 * n];
         let (s, c) = (&self.selectors, &self.contents);
-        plain::prove(self.p, self.n, self.l, s, &self.labels, c, &self.publics, &mut transcript, &self.challenges[..3], scratch);
+        let challenges = &self.challenges[..3];
+        plain::prove_filed(add_product, self.p, self.n, self.l, s, &self.labels, c, &self.publics, &mut transcript, challenges, scratch);
         transcript
     }
 

@@ -103,8 +103,10 @@ fn deposits() -> usize {
     off += deposit("gamma 2", "1,1,2,2", "1,2,2,2", "refused,11,1\n");
     off += deposit("4 rows", "17,2,0", "17,4,0", "refused,5,4\n");
     off += deposit("8 rows", "17,2,0", "17,8,0", "refused,3,0\n");
-    off += deposit("97 with 32 rows", "17,2,0", "97,32,0", "refused,5,4\n");
-    off += deposit("97 with 64 rows", "17,2,0", "97,64,0", "refused,3,0\n");
+    off += deposit("97", "17,2,0", "97,2,0", "refused,16,0\n");
+    off += deposit("97 with 64 rows", "17,2,0", "97,64,0", "refused,16,0\n");
+    off += deposit("97, l = 3", "17,2,0", "97,2,3", "refused,16,0\n");
+    off += deposit("97, a first line of four numbers", "17,2,0", "97,2,0,0", "refused,1,0\n");
     off += deposit("256 rows", "17,2,0", "2013265921,256,0", "refused,5,4\n");
     off += deposit("512 rows", "17,2,0", "2013265921,512,0", "refused,3,0\n");
     off += deposit("1 row", "17,2,0", "17,1,0", "refused,3,0\n");
@@ -145,7 +147,10 @@ fn joins() -> usize {
     off += join("8 rows over 17", TWICE, PUBLIC_FIRST, "refused,3,0\n");
     off += join("4 rows and 2", TWICE, sheet, "refused,15,0\n");
     off += join("2 rows and 4", sheet, TWICE, "refused,15,0\n");
-    off += join("primes 17 and 97", sheet, &sheet.replacen("17,", "97,", 1), "refused,15,0\n");
+    off += join("primes 17 and 2013265921", sheet, &sheet.replacen("17,", "2013265921,", 1), "refused,15,0\n");
+    off += join("a second over 97", sheet, &sheet.replacen("17,", "97,", 1), "refused,16,0\n");
+    off += join("a first over 97 with 64 rows", "97,64,0\n", "", "refused,16,0\n");
+    off += join("label 6 before a second over 97", &sheet.replacen("2,2,3", "2,2,6", 1), "97,2,0\n", "refused,8,5\n");
     off += join("a first that ends early", &sheet[..sheet.len() - 8], "", "refused,5,6\n");
     off += join("an empty second", sheet, "", "refused,1,0\n");
     off += join("a second with content 17", sheet, &sheet.replacen("6,6,12", "6,6,17", 1), "refused,7,15\n");
@@ -162,7 +167,7 @@ fn lost(name: &str, contents: &[u32], challenges: &[u32], words: &[u32]) -> usiz
 // The gammas that are lost with each beta, counted and tried with `prove`, and the count's refusals.
 fn losses() -> usize {
     let mut r = Random::new(91);
-    let mut circuit = sheets::parse(SHEET).expect("a sheet that can be read");
+    let mut circuit = sheets::parse(SHEET, true).expect("a sheet that can be read");
     let mut off = 0;
     for (beta, due) in (0..).zip(LOST) {
         off += lost(&format!("beta {beta}"), &CONTENTS, &[beta], &[0, 0, due]);

@@ -8,12 +8,12 @@ pub const JOINED: usize = 65536;
 
 // The reasons in their order: those of the first sheet, with 6 between 5 and 7; those of the second, which has no 6; those of the pair.
 fn decide(one: &[u8], two: &[u8], room: usize) -> Result<[Circuit; 2], Refusal> {
-    let first = parse(one)?;
+    let first = parse(one, true)?;
     if room != JOINED {
         return Err([6, 3]);
     }
     judge(&first)?;
-    let second = parse(two)?;
+    let second = parse(two, true)?;
     judge(&second)?;
     if (first.p, first.n) != (second.p, second.n) {
         return Err([15, 0]);

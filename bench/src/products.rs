@@ -1,7 +1,8 @@
-// Products by transforms against products row by row: by themselves, and inside `prove`, of every size of every prime and on both sides.
+// Products by transforms against products row by row: by themselves, and inside `prove`, of every size of every prime that may be proved with and on both
+// sides.
 use crate::cases::Circuit;
 use crate::kinds::{plainly, proved, Case, Kind};
-use crate::numbers::{field, LARGEST, PRIMES};
+use crate::numbers::{field, CURRENT, LARGEST};
 use crate::plain;
 use crate::polynomials::{add_product, by_rows, by_transforms, AddProduct};
 use crate::random::Random;
@@ -94,7 +95,7 @@ fn try_prove(r: &mut Random, p: u32, n: u32) -> usize {
 
 fn try_proves(r: &mut Random) -> usize {
     let (mut sizes, mut off) = (0, 0);
-    for p in PRIMES {
+    for p in CURRENT {
         let (_, most) = field(p).unwrap();
         let mut n = 2;
         while n <= most {

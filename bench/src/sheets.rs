@@ -1,6 +1,6 @@
 // The sheet of document 01: reading one, and the text of a deposit, written plainly from the document.
 use crate::cases::Circuit;
-use crate::plain::{self, admitted, bound, elements, few, labelled, lengths, Refusal};
+use crate::plain::{self, admitted, bound, current, elements, few, labelled, lengths, Refusal};
 use std::fmt::Write;
 
 pub const LONGEST: usize = 65536;
@@ -46,13 +46,16 @@ fn block<'a, const K: usize>(lines: &mut impl Iterator<Item = &'a [u8]>, from: u
     Ok(out)
 }
 
-// 1 to 5.
-pub fn parse(sheet: &[u8]) -> Result<Circuit, Refusal> {
+// 1 to 5, and for a new sheet 16 straight after 2.
+pub fn parse(sheet: &[u8], new: bool) -> Result<Circuit, Refusal> {
     if sheet.len() > LONGEST {
         return Err([1, 0]);
     }
     let mut lines = sheet.split_inclusive(|&b| b == 10);
     let [p, n, l] = line(lines.next()).ok_or([1, 0])?;
+    if new {
+        current(p)?;
+    }
     admitted(p, n)?;
     if n > MOST_ROWS {
         return Err([3, 0]);
@@ -77,8 +80,8 @@ pub fn judge(s: &Circuit) -> Result<(), Refusal> {
 }
 
 // 1 to 8 and 14, the buffers in their order.
-fn decide(sheet: &[u8], lent: &[&mut [u32]; 5]) -> Result<Circuit, Refusal> {
-    let s = parse(sheet)?;
+fn decide(sheet: &[u8], new: bool, lent: &[&mut [u32]; 5]) -> Result<Circuit, Refusal> {
+    let s = parse(sheet, new)?;
     let due = [0, 1, 2, 3, 4].map(|k| (&*lent[k], LENGTHS[k]));
     lengths(&due).map_err(|[number, place]| [number, place + 1])?; // the sheet is the first buffer
     judge(&s)?;
@@ -93,7 +96,7 @@ fn lay(numbers: &[u32], buffer: &mut [u32]) {
 
 // Selectors, labels, contents, public numbers and challenges.
 pub fn read(sheet: &[u8], lent: &mut [&mut [u32]; 5]) -> [u32; 5] {
-    match decide(sheet, lent) {
+    match decide(sheet, false, lent) {
         Ok(s) => {
             lay(&s.selectors, lent[0]);
             lay(&s.labels, lent[1]);
@@ -140,7 +143,7 @@ fn print_work(s: &Circuit) -> Result<String, Refusal> {
 pub fn printed(sheet: &[u8]) -> String {
     let mut own = LENGTHS.map(|length| vec![0; length]);
     let lent = own.each_mut().map(|b| &mut b[..]);
-    match decide(sheet, &lent).and_then(|s| print_work(&s)) {
+    match decide(sheet, true, &lent).and_then(|s| print_work(&s)) {
         Ok(out) => out,
         Err(refusal) => {
             let mut out = String::new();

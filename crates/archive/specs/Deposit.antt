@@ -1,6 +1,6 @@
 -- The text of a deposit, and what `deposit` promises.
 --
--- depositText s    the text of a sheet: why it cannot be read, or else the text of its numbers
+-- depositText s    the text of a sheet: why it is turned down as a new sheet, or else the text of its numbers
 -- depositDue       the lengths due of the sheet, which has whatever length it has, and of the text
 -- depositReasons   of `deposit`
 -- Deposits         refused: the buffer as it came; accepted: the text, and zeros behind it
@@ -15,7 +15,7 @@ use Rattle.algebra.specs.Lists.{tab}
 use Rattle.field.specs.Reasons.{Reason, answerOf, isAccepted, badLengths}
 use Rattle.circuit.specs.Buffers.{selectorsLength, labelsLength, witnessLength}
 use Rattle.text.specs.Text.{refusedText}
-use Rattle.sheet.specs.Sheet.{sheetP, sheetN, sheetL, onSelectors, onLabels, onWitness, onPublics, onChallenges, readAnswer}
+use Rattle.sheet.specs.Sheet.{sheetP, sheetN, sheetL, onSelectors, onLabels, onWitness, onPublics, onChallenges, newAnswer}
 use Rattle.archive.specs.declared.Deposited.{Deposited}
 use Rattle.archive.specs.Printed.{textLength, workText}
 
@@ -24,9 +24,9 @@ unfoldable pub depositText : List ℕ → List ℕ
 depositText s =
     let n : ℕ = sheetN s in
     let l : ℕ = sheetL s in
-    cond (isAccepted (readAnswer s))
+    cond (isAccepted (newAnswer s))
     (workText (sheetP s) n l (tab (onSelectors s n l) (selectorsLength n)) (tab (onLabels s n l) (labelsLength n)) (tab (onWitness s n l) (witnessLength n)) (tab (onPublics s n l) l) (tab (onChallenges s n l) 4))
-    (refusedText (readAnswer s .number) (readAnswer s .detail))
+    (refusedText (newAnswer s .number) (newAnswer s .detail))
 
 abbrev pub depositDue : ℕ → List ℕ
 depositDue bytes = bytes ∷ textLength ∷ []

@@ -26,7 +26,7 @@ use Rattle.text.specs.Text.{refusedWord, refusedText}
 use Rattle.text.specs.Puts.{length-line}
 use Rattle.archive.specs.Printed.{verdictText, transcriptText, textLength, provedText, workAnswer, workText}
 use Rattle.archive.specs.Lines.{transcript-fits}
-use Rattle.sheet.specs.Sheet.{readAnswer}
+use Rattle.sheet.specs.Sheet.{newAnswer}
 use Rattle.archive.specs.Deposit.{depositText, Deposits}
 use Rattle.archive.specs.Sheets.{right-of}
 
@@ -86,9 +86,9 @@ work-fits {p} {n} D l selectors labels witness publics challenges some-rows few 
 pub text-fits : (s : List ℕ) → length (depositText s) ≤ textLength
 unfolding depositText
 text-fits s =
-    either-fits (isAccepted (readAnswer s)) _ _
+    either-fits (isAccepted (newAnswer s)) _ _
     (λ e.
-    let R = right-of s (eqb-true (readAnswer s .number) 0 e) in
+    let R = right-of s (eqb-true (newAnswer s .number) 0 e) in
     work-fits (domain _ _ (R .admissible)) _ _ _ _ _ _ (omega (arith, rows-power _ _ (R .admissible .rows) .least)) (R .few-rows))
     (refused-fits _ _)
 

@@ -1,10 +1,12 @@
 -- What `read` leaves for the prover, and the text of a deposit from it.
 --
 -- Right s         what a sheet that is read has: admissible p and n, at most 256 rows, at most n public inputs, elements as challenges
--- right-of        a sheet with answer number 0 has it
+-- right-of        a new sheet with answer number 0 has it
+-- prime-text      the text of a sheet that is turned down at its first line, by 1, 2 or 16
+-- retired-text    of a sheet over 97 whose first line is in form, the text is refused,16,0, whatever stands behind
 -- READ INTO ARRAYS OF THE LENGTHS THAT ARE DUE
 -- Arrays          the arrays that are lent have these lengths
--- read-answer     the answer is that of the definitions
+-- read-answer     the answer is that of the definitions, of a sheet whose prime may be proved with
 -- rows-few, publics-few   n and l are at most 256
 -- sheet-workable  the prover can be lent the numbers
 -- sheet-text, unread-text   the text of the numbers that are read, and of a refusal, is the text of the deposit
@@ -26,15 +28,15 @@ use Rattle.algebra.specs.Lists.{tab}
 use Rattle.algebra.specs.Polynomial.{Elements}
 use Rattle.algebra.specs.Tables.{length-tab, all-right}
 use Rattle.field.specs.declared.Answer.{Answer}
-use Rattle.field.specs.Fields.{Admissible}
+use Rattle.field.specs.Fields.{isCurrent, Admissible}
 use Rattle.field.specs.Primes.{rows-power}
 use Rattle.field.specs.Lent.{lengths-same, lengths-none}
 use Rattle.field.specs.Reasons.{answerOf, isAccepted, badLengths}
 use Rattle.field.specs.ReasonLaws.{none-applies}
 use Rattle.circuit.specs.Buffers.{selectorsLength, labelsLength, witnessLength}
 use Rattle.text.specs.Text.{refusedText}
-use Rattle.sheet.specs.Sheet.{sheetRows, sheetP, sheetN, sheetL, onSelectors, onLabels, onWitness, onPublics, onChallenges, padded, sheetDue, readAnswer}
-use Rattle.sheet.specs.Deciding.{taken-of, own-answer}
+use Rattle.sheet.specs.Sheet.{sheetRows, sheetP, sheetN, sheetL, onSelectors, onLabels, onWitness, onPublics, onChallenges, padded, badFirst, sheetDue, newAnswer}
+use Rattle.sheet.specs.Deciding.{primeLine, taken-of, own-answer, new-refused, new-same, new-of, new-retired}
 use Rattle.sheet.specs.declared.SheetAnswer.{SheetAnswer}
 use Rattle.sheet.specs.Promises.{Reads}
 use Rattle.archive.specs.Printed.{textLength, workText}
@@ -47,12 +49,12 @@ pub record Right (s : List ℕ) : Type 0 where
   pub few-publics : sheetL s ≤ sheetN s
   pub challenges-right : Elements (sheetP s) 4 (tab (onChallenges s (sheetN s) (sheetL s)) 4)
 
-pub right-of : (s : List ℕ) → readAnswer s .number ≡ 0 → Right s
+pub right-of : (s : List ℕ) → newAnswer s .number ≡ 0 → Right s
 right-of s e =
     let n : ℕ = sheetN s in
     let l : ℕ = sheetL s in
     let P : ℕ → Type 0 = λ a. a < sheetP s in
-    let taken = taken-of s [] tt e .0 in
+    let taken = taken-of s [] tt (new-of s [] e .1) .0 in
     record {
       admissible = taken .shape .admissible;
       few-rows = taken .shape .few;
@@ -64,6 +66,17 @@ right-of s e =
             (all-right P (tab (onWitness s n l) (witnessLength n)) _ (all-right P (tab (onSelectors s n l) (selectorsLength n)) _ (taken .elements)));
       };
     }
+
+pub prime-text : (s : List ℕ) (a : Answer) → a ≡ answerOf (primeLine s) → a .number ≢ 0 → refusedText (a .number) (a .detail) ≡ depositText s
+unfolding depositText
+prime-text s a e h =
+    let is : a ≡ newAnswer s = new-refused s [] a e h in
+    let no : isAccepted (newAnswer s) ≡ false = ap isAccepted (sym is) ∙ ne-eqb (a .number) 0 h in
+    rw (no, is)
+
+pub retired-text : (s : List ℕ) → badFirst s .applies ≡ false → sheetP s ≡ 97 → depositText s ≡ refusedText 16 0
+unfolding depositText
+retired-text s h e = rw (new-retired s [] h e)
 
 -- READ INTO ARRAYS OF THE LENGTHS THAT ARE DUE
 
@@ -79,12 +92,13 @@ pub record Arrays (selectors labels witness publics challenges : List ℕ) : Typ
 
 module _ (s selectors labels witness publics challenges : List ℕ) (r : SheetAnswer) (selectors' labels' witness' publics' challenges' : List ℕ)
     (R : Reads s selectors labels witness publics challenges r selectors' labels' witness' publics' challenges')
-    (L : Arrays selectors labels witness publics challenges) where
-  pub read-answer : r .answer ≡ readAnswer s
+    (L : Arrays selectors labels witness publics challenges) (current : isCurrent (sheetP s) ≡ true) where
+  pub read-answer : r .answer ≡ newAnswer s
   read-answer =
       R .answer
       ∙ rw (sym (L .selectors-long), sym (L .labels-long), sym (L .witness-long), sym (L .publics-long), sym (L .challenges-long))
       (own-answer s (badLengths (sheetDue (length s)) (sheetDue (length s)) ∷ []) (omega arith, tt) (rw (lengths-none {long = sheetDue (length s)} refl)))
+      ∙ sym (new-same s [] current)
 
   module _ (e : r .answer .number ≡ 0) where
     pub right : Right s
@@ -128,7 +142,7 @@ module _ (s selectors labels witness publics challenges : List ℕ) (r : SheetAn
         let labels-read : labels' ≡ padded (labelsLength sheetRows) (onLabels s (sheetN s) (sheetL s)) (labelsLength (sheetN s)) = R .labels-laid ∙ rw accepted in
         let witness-read : witness' ≡ padded (witnessLength sheetRows) (onWitness s (sheetN s) (sheetL s)) (witnessLength (sheetN s)) = R .witness-laid ∙ rw accepted in
         let publics-read : publics' ≡ padded sheetRows (onPublics s (sheetN s) (sheetL s)) (sheetL s) = R .publics-laid ∙ rw accepted in
-        let yes : isAccepted (readAnswer s) ≡ true = ap isAccepted (sym read-answer) ∙ accepted in
+        let yes : isAccepted (newAnswer s) ≡ true = ap isAccepted (sym read-answer) ∙ accepted in
         rw (
           p-read,
           n-read,
@@ -148,7 +162,7 @@ module _ (s selectors labels witness publics challenges : List ℕ) (r : SheetAn
   pub unread-text : r .answer .number ≢ 0 → refusedText (r .answer .number) (r .answer .detail) ≡ depositText s
   unfolding depositText
   unread-text h =
-      let no : isAccepted (readAnswer s) ≡ false = ap isAccepted (sym read-answer) ∙ ne-eqb (r .answer .number) 0 h in
+      let no : isAccepted (newAnswer s) ≡ false = ap isAccepted (sym read-answer) ∙ ne-eqb (r .answer .number) 0 h in
       rw (no, read-answer)
 
 -- DEPOSITS

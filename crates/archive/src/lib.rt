@@ -2,10 +2,13 @@
 //
 // The public call is `deposit`. It lends the sheet's numbers on from arrays of its own, which have room for 256 rows.
 ghost use mathlib.Core.Path.{_≡_};
+ghost use mathlib.Core.Bool.{true};
 ghost use Prim.Native.Nat.{_≤_};
 ghost use lib.ListN.{length, take};
+ghost use Rattle.field.specs.Fields.{isCurrent};
 ghost use Rattle.circuit.specs.Buffers.{selectorsLength, labelsLength, witnessLength};
 ghost use Rattle.text.specs.Puts.{Puts};
+ghost use Rattle.sheet.specs.Sheet.{sheetP};
 ghost use Rattle.archive.specs.Deposit.{depositText, Deposits};
 ghost use Rattle.archive.specs.Printed.{textLength, workText};
 ghost use Rattle.archive.specs.Work.{Workable};
@@ -57,9 +60,9 @@ fn print_read(
     )
 }
 
-// The text of a sheet, at the buffer's start: why it cannot be read, or the text of its numbers.
-fn print_sheet(sheet: &[u8], text: &mut [u8]) -> usize
-    requires { ⌜ length (now text) ≡ textLength ⌝ }
+// The text of a sheet whose prime may be proved with, at the buffer's start: why it cannot be read, or the text of its numbers.
+fn print_current(sheet: &[u8], text: &mut [u8]) -> usize
+    requires { ⌜ (length (now text) ≡ textLength) × (isCurrent (sheetP (now sheet)) ≡ true) ⌝ }
     ensures { λ r. ⌜ Puts 0 (depositText (now (sheet .entry))) (now (text .entry)) r (now (text .exit)) ⌝ }
 {
     let mut selectors = blanks::blank_1280();
@@ -92,6 +95,20 @@ fn print_sheet(sheet: &[u8], text: &mut [u8]) -> usize
         );
     }
     text::put_refused(number, detail, text)
+}
+
+// The text of a sheet, at the buffer's start. What its first line tells of its prime is looked at before all that stands behind it.
+fn print_sheet(sheet: &[u8], text: &mut [u8]) -> usize
+    requires { ⌜ length (now text) ≡ textLength ⌝ }
+    ensures { λ r. ⌜ Puts 0 (depositText (now (sheet .entry))) (now (text .entry)) r (now (text .exit)) ⌝ }
+{
+    let prime = sheet::decide_prime(sheet);
+    let number = prime.number;
+    let detail = prime.detail;
+    if number != 0 {
+        return text::put_refused(number, detail, text);
+    }
+    print_current(sheet, text)
 }
 
 // The text of a sheet and zeros behind it, in a buffer of the text's length. A sheet that is refused has a text too.

@@ -11,7 +11,7 @@
 -- prepareDue, prepareReasons           of `prepare`
 -- rowsDue, rowsReasons                 of `check_rows`
 -- pointDue, pointReasons               of `check_point`
--- proveDue, proveBufferReasons         of `prove`, but for those that look at the witness (9, 10, 11)
+-- proveDue, proveBufferReasons         of `prove`, but for those that look at the witness (9, 10, 11) and that of a retired prime (16)
 --
 -- Assumes nothing.
 use mathlib.Core.Bool.{not}

@@ -7,6 +7,12 @@
 -- both-none        an answer of two lists with number 0: so is that of each
 -- both-taken       where both answers are number 0, detail 0, so is that of the two lists
 -- refused-first, refused-later   the same for a call that answers by the first list where one of its reasons applies, and else by the second
+-- after-numbers, after-same   with a reason put in straight after another, still none has number 0; and if it does not apply, the answer is as it was
+-- current-first    16 stands straight after 2: the reasons of the prime come first, where those of a call begin with 2
+-- current-numbers  with 16, still none has number 0
+-- current-refused  the reasons of the prime answer, where one of them applies
+-- prime-current, current-known   where neither 2 nor 16 applies, p may be proved with
+-- current-answer   where p may be proved with, the answer is that without 16
 -- elements-of      where no number of a list is p or more, all are elements
 -- elements-none    where all are elements, none is p or more
 -- firstAbove-le    the place of the first number that is p or more is at most the length
@@ -14,22 +20,23 @@
 -- further          the same for a call that has passed the first list and goes on with the second
 --
 -- Assumes nothing.
-use mathlib.Core.Path.{_≡_, refl, sym, ap, ap₂, _∙_}
+use mathlib.Core.Path.{_≡_, refl, sym, ap, ap₂, _∙_, subst}
 use mathlib.Core.Logic.{_≢_}
 use mathlib.Core.Bool.{Bool, true, false, cond}
 use mathlib.Core.List.{List, [], _∷_, _++_}
 use Prim.Native.Nat.{ℕ, _+_, _-_, _≤_, _<_}
 use native.Mathlib.Decide.{decLt}
 use native.Mathlib.Omega.{arith}
-use lib.Dec.{leb, ltb}
+use lib.Dec.{eqb, leb, ltb}
 use lib.ListN.{length, getD, length-append, List·getD-append}
 use lib.Seq.{getD-append-add}
-use borrow.Author.Tests.{ltb-false, leb-false, leb-true, eqb-true, eqb-false, lt-ltb, le-ltb, eq-eqb, ne-eqb}
+use borrow.Author.Tests.{not-false, ltb-false, leb-false, leb-true, eqb-true, eqb-false, lt-ltb, le-ltb, eq-eqb, ne-eqb}
 use Rattle.algebra.specs.Lists.{All}
 use Rattle.algebra.specs.Search.{First, first-is, first-none, first-same}
 use Rattle.algebra.specs.Tables.{all-getD, all-of}
 use Rattle.field.specs.declared.Answer.{Answer}
-use Rattle.field.specs.Reasons.{Reason, answerOf, isAccepted, firstAbove}
+use Rattle.field.specs.Fields.{isCurrent}
+use Rattle.field.specs.Reasons.{Reason, answerOf, isAccepted, badField, retiredField, firstAbove, straightAfter, primeReasons, currentOnly}
 
 pub none-applies : (rs : List Reason) → All (λ r. r .number ≢ 0) rs → answerOf rs .number ≡ 0 → All (λ r. r .applies ≡ false) rs
 none-applies [] n e = tt
@@ -81,6 +88,48 @@ both-none rs ss n e = go (isAccepted (answerOf rs)) refl (ap (λ (a : Answer). a
 pub both-taken : (rs ss : List Reason) → All (λ r. r .number ≢ 0) rs → answerOf rs ≡ record { number = 0; detail = 0 }
     → answerOf ss ≡ record { number = 0; detail = 0 } → answerOf (rs ++ ss) ≡ record { number = 0; detail = 0 }
 both-taken rs ss n e f = sym (refused-later rs ss n _ _ refl (ap (λ (a : Answer). a .number) e) refl) ∙ f
+
+-- A REASON PUT IN
+
+after-numbers : (k : ℕ) (r : Reason) → r .number ≢ 0 → (rs : List Reason) → All (λ r. r .number ≢ 0) rs → All (λ r. r .number ≢ 0) (straightAfter k r rs)
+after-numbers k r h [] n = tt
+after-numbers k r h (q ∷ rs) n = go (eqb (q .number) k) (after-numbers k r h rs (n .1))
+  where
+    go : (b : Bool) → All (λ r. r .number ≢ 0) (straightAfter k r rs) → All (λ r. r .number ≢ 0) (cond b (q ∷ r ∷ rs) (q ∷ straightAfter k r rs))
+    go true later = (n .0, (h, n .1))
+    go false later = (n .0, later)
+
+after-same : (k : ℕ) (r : Reason) → r .applies ≡ false → (rs : List Reason) → answerOf (straightAfter k r rs) ≡ answerOf rs
+after-same k r e [] = refl
+after-same k r e (q ∷ rs) = go (eqb (q .number) k) (after-same k r e rs)
+  where
+    go : (b : Bool) → answerOf (straightAfter k r rs) ≡ answerOf rs → answerOf (cond b (q ∷ r ∷ rs) (q ∷ straightAfter k r rs)) ≡ answerOf (q ∷ rs)
+    go true later = rw e
+    go false later = rw later
+
+pub current-first : (p : ℕ) (rs : List Reason) → currentOnly p (badField p ∷ rs) ≡ primeReasons p ++ rs
+current-first p rs = refl
+
+pub current-numbers : (p : ℕ) (rs : List Reason) → All (λ r. r .number ≢ 0) rs → All (λ r. r .number ≢ 0) (currentOnly p rs)
+current-numbers p rs n = after-numbers _ (retiredField p) (omega arith) rs n
+
+pub current-refused : (p : ℕ) (rs : List Reason) {rest : List Reason} → rs ≡ badField p ∷ rest → (a : Answer) → a ≡ answerOf (primeReasons p) → (a .number ≡ 0 → ⊥)
+    → a ≡ answerOf (currentOnly p rs)
+current-refused p rs {rest} begins a e h = rw begins (refused-first (primeReasons p) rest (omega arith, (omega arith, tt)) a e h ∙ ap answerOf (sym (current-first p rest)))
+
+pub prime-current : (p : ℕ) (a : Answer) → a ≡ answerOf (primeReasons p) → a .number ≡ 0 → isCurrent p ≡ true
+prime-current p a e h =
+    not-false _ (none-applies (primeReasons p) (omega arith, (omega arith, tt)) (sym (ap (λ (b : Answer). b .number) e) ∙ h) .1 .0)
+
+pub current-known : (p : ℕ) (rs : List Reason) {rest : List Reason} → rs ≡ badField p ∷ rest → answerOf (currentOnly p rs) .number ≡ 0 → isCurrent p ≡ true
+current-known p rs {rest} begins e =
+    let both = both-none (primeReasons p) rest (omega arith, (omega arith, tt)) (subst (λ (l : List Reason). answerOf (currentOnly p l) .number ≡ 0) begins e) in
+    prime-current p _ refl (both .0)
+
+pub current-answer : (p : ℕ) → isCurrent p ≡ true → (rs : List Reason) → answerOf (currentOnly p rs) ≡ answerOf rs
+current-answer p e rs = after-same _ (retiredField p) (rw e) rs
+
+-- ELEMENTS
 
 pub elements-of : (p : ℕ) (xs : List ℕ) → ltb (firstAbove p xs) (length xs) ≡ false → All (λ (x : ℕ). x < p) xs
 unfolding firstAbove

@@ -4,6 +4,7 @@
 -- answerOf rs        the number and detail of the first reason that applies; number 0, detail 0 (accepted) where none does
 -- isAccepted a       the answer's number is 0
 -- badField p         2: p is none of the three primes
+-- retiredField p     16: p may not be proved with. It stands behind 2, so p is 97
 -- badRows p n most   3: n is no power of two, or outside its prime's bounds, or above `most`
 -- badPublics n l     4: l exceeds n
 -- shapeReasons p n l most   the reasons of p, n and l: 2, 3 and 4. A call that is lent no l has l = 0
@@ -13,6 +14,9 @@
 -- reasonAt number at count  a reason that a search found at a place, which is its detail; it applies where the place is below the number of places
 -- firstAbove p xs    the place of the first number of xs that is p or more; the length where there is none
 -- badElement p xs    7: a number of xs is p or more; detail: the place of the first
+-- straightAfter k r rs   the reasons rs, with r put in straight after the one of number k
+-- primeReasons p     2 and 16: the reasons of a prime that is to be proved with
+-- currentOnly p rs   the reasons rs of a call that takes only primes that may be proved with: 16 straight after 2
 -- inverseReasons p x the reasons of `inverse`
 -- inverseAs o        the inverse as the enum of `inverse`
 -- Inverts p x r      what `inverse` promises of its answer r
@@ -30,7 +34,7 @@ use Rattle.field.specs.declared.Answer.{Answer}
 use Rattle.field.specs.declared.InverseOf.{InverseOf}
 use Rattle.field.specs.declared.InverseOf.the-variants.{None, Is}
 use Rattle.field.specs.declared.Inverted.{Inverted}
-use Rattle.field.specs.Fields.{isField, isRows, greatestRows}
+use Rattle.field.specs.Fields.{isField, isCurrent, isRows, greatestRows}
 
 pub record Reason : Type 0 where
   pub number : ℕ
@@ -46,6 +50,9 @@ isAccepted a = eqb (a .number) 0
 
 abbrev pub badField : ℕ → Reason
 badField p = record { number = 2; detail = 0; applies = not (isField p) }
+
+abbrev pub retiredField : ℕ → Reason
+retiredField p = record { number = 16; detail = 0; applies = not (isCurrent p) }
 
 abbrev pub badRows : ℕ → ℕ → ℕ → Reason
 badRows p n most = record { number = 3; detail = 0; applies = not (isRows p n) || ltb most n }
@@ -75,6 +82,16 @@ firstAbove p xs = first (λ k. leb p (getD xs k 0)) 0 (length xs)
 
 abbrev pub badElement : ℕ → List ℕ → Reason
 badElement p xs = reasonAt 7 (firstAbove p xs) (length xs)
+
+abbrev pub straightAfter : ℕ → Reason → List Reason → List Reason
+straightAfter k r [] = []
+straightAfter k r (q ∷ rs) = cond (eqb (q .number) k) (q ∷ r ∷ rs) (q ∷ straightAfter k r rs)
+
+abbrev pub primeReasons : ℕ → List Reason
+primeReasons p = badField p ∷ retiredField p ∷ []
+
+abbrev pub currentOnly : ℕ → List Reason → List Reason
+currentOnly p rs = straightAfter 2 (retiredField p) rs
 
 abbrev pub inverseReasons : ℕ → ℕ → List Reason
 inverseReasons p x = badField p ∷ badElement p (x ∷ []) ∷ []

@@ -1,10 +1,23 @@
-// Reasons for turning a call down that every call shares. Nothing is written.
+// Reasons for turning a call down that several calls share. Nothing is written.
 ghost use mathlib.Core.Path.{_≡_};
 ghost use mathlib.Core.List.{[], _∷_};
 ghost use Prim.Native.Nat.{_≤_};
 ghost use lib.ListN.{length};
-ghost use Rattle.field.specs.Reasons.{answerOf, shapeReasons, firstOther, badLengths, lentReasons, reasonAt};
+ghost use Rattle.field.specs.Reasons.{answerOf, primeReasons, shapeReasons, firstOther, badLengths, lentReasons, reasonAt};
 use super::Answer;
+
+// The reasons of a prime that is to be proved with: 2, and 16 where it is retired.
+pub fn decide_prime(p: u32) -> Answer
+    ensures { λ r. ⌜ r ≡ answerOf (primeReasons p) ⌝ }
+{
+    if !super::is_field(p) {
+        return super::refused(2, 0);
+    }
+    if !super::is_current(p) {
+        return super::refused(16, 0);
+    }
+    super::accepted()
+}
 
 // The reasons of p, n and l, where n may be at most `most`: 2, 3 and 4. A call that is lent no l has l = 0.
 pub fn decide_shape(p: u32, n: u32, l: u32, most: u32) -> Answer

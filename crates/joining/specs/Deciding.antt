@@ -1,11 +1,12 @@
 -- What deciding whether two sheets are joined promises, and what is known where they are.
 --
 -- Filled N            the numbers of a sheet that is taken: a circuit, and elements in the lengths due
--- Joinable A B        two such sheets of one prime and one n, whose doubled n is admissible on a sheet
+-- Joinable A B        two such sheets of one prime, which may be proved with, and one n, whose doubled n is admissible on a sheet
 -- filled-of           a sheet that is taken is filled
 -- Known               p, n, l and m of the pair r are those of the sheets, and the tables hold their lines
 -- Decides             the answer, and where no reason applies, what is known
 -- first-refused, second-refused, pair-decided   the answer by the first sheet's reasons, by the second's, by those of the pair
+-- first-retired, second-retired   the answer is 16 where the first sheet is over 97 and its first line is in form, and where no reason of the first applies and the second is
 -- joinable-of         where no reason of `join` applies, the sheets can be joined
 -- room-is             and the written buffer has the length due
 -- refused-join, made-join   the promise of `join`, where it is turned down and where not
@@ -13,7 +14,7 @@
 -- Assumes nothing.
 use mathlib.Core.Path.{_≡_, refl, sym, ap, _∙_}
 use mathlib.Core.Logic.{_≢_}
-use mathlib.Core.Bool.{not, and-eq-true-iff}
+use mathlib.Core.Bool.{true, false, not, and-eq-true-iff}
 use mathlib.Core.List.{List, [], _∷_, _++_}
 use Prim.Native.Nat.{ℕ, _*_, _-_, _≤_, _<_}
 use native.Mathlib.Omega.{arith}
@@ -25,15 +26,15 @@ use Rattle.algebra.specs.Polynomial.{Elements}
 use Rattle.algebra.specs.Search.{both-false}
 use Rattle.algebra.specs.Tables.{length-tab, all-left, all-right}
 use Rattle.field.specs.declared.Answer.{Answer}
-use Rattle.field.specs.Fields.{Admissible, isRows}
+use Rattle.field.specs.Fields.{Admissible, isCurrent, isRows}
 use Rattle.field.specs.Lent.{lengths-same}
 use Rattle.field.specs.Reasons.{Reason, answerOf, badLengths}
 use Rattle.field.specs.ReasonLaws.{none-applies, both-none, refused-first, refused-later}
 use Rattle.circuit.specs.Buffers.{selectorsLength, witnessLength}
 use Rattle.circuit.specs.RightlyLent.{RightCircuit}
-use Rattle.sheet.specs.Sheet.{sheetRows, linesDue, sheetP, sheetN, sheetL, onSelectors, onWitness, onPublics, onChallenges, readReasons}
+use Rattle.sheet.specs.Sheet.{sheetRows, linesDue, sheetP, sheetN, sheetL, onSelectors, onWitness, onPublics, onChallenges, badFirst, newReasons}
 use Rattle.sheet.specs.Table.{Held}
-use Rattle.sheet.specs.Deciding.{Taken, taken-of, own-answer, read-numbers}
+use Rattle.sheet.specs.Deciding.{Taken, taken-of, new-numbers, new-of, new-retired, new-own}
 use Rattle.joining.specs.declared.reasons.Pair.{Pair}
 use Rattle.joining.specs.Joining.{Numbers, onSheet, joinedText, joinedLength, joinDue, pairReasons, joinReasons, Joins}
 
@@ -48,6 +49,7 @@ pub record Joinable (A B : Numbers) : Type 0 where
   pub two : Filled B
   pub same-p : A .p ≡ B .p
   pub same-n : A .n ≡ B .n
+  pub current : isCurrent (A .p) ≡ true
   pub admissible : Admissible (A .p) (2 * A .n)
   pub few : 2 * A .n ≤ sheetRows
 
@@ -86,54 +88,63 @@ module _ (one two : List ℕ) (room : ℕ) where
   lengths = badLengths (length one ∷ length two ∷ room ∷ []) (joinDue (length one) (length two)) ∷ []
 
   abbrev ofOne : List Reason
-  ofOne = readReasons one lengths
+  ofOne = newReasons one lengths
 
   abbrev ofTwo : List Reason
-  ofTwo = readReasons two []
+  ofTwo = newReasons two []
 
   abbrev ofPair : List Reason
   ofPair = pairReasons (sheetP one) (sheetN one) (sheetP two) (sheetN two)
 
   one-numbers : All (λ r. r .number ≢ 0) ofOne
-  one-numbers = read-numbers one lengths (omega arith, tt)
+  one-numbers = new-numbers one lengths (omega arith, tt)
 
   two-numbers : All (λ r. r .number ≢ 0) ofTwo
-  two-numbers = read-numbers two [] tt
+  two-numbers = new-numbers two [] tt
 
   pub first-refused : (a : Answer) → a ≡ answerOf ofOne → (a .number ≡ 0 → ⊥) → a ≡ answerOf (joinReasons one two room)
   first-refused a e h = refused-first ofOne (ofTwo ++ ofPair) one-numbers a e h
 
   module _ (a : Answer) (e : a ≡ answerOf ofOne) (zero : a .number ≡ 0) where
     first-taken : Taken one × (answerOf lengths .number ≡ 0)
-    first-taken = taken-of one lengths (omega arith, tt) (sym (ap (λ (b : Answer). b .number) e) ∙ zero)
+    first-taken = taken-of one lengths (omega arith, tt) (new-of one lengths (sym (ap (λ (b : Answer). b .number) e) ∙ zero) .1)
 
     pub rows-few : sheetN one ≤ 256
     rows-few = first-taken .0 .shape .few
 
     -- the second sheet is read with the lengths of the call, which are those due
-    own : (b : Answer) → b ≡ answerOf (readReasons two lengths) → b ≡ answerOf ofTwo
-    own b f = f ∙ own-answer two lengths (omega arith, tt) (first-taken .1)
+    own : (b : Answer) → b ≡ answerOf (newReasons two lengths) → b ≡ answerOf ofTwo
+    own b f = f ∙ new-own two lengths (omega arith, tt) (first-taken .1)
 
-    pub second-refused : (b : Answer) → b ≡ answerOf (readReasons two lengths) → (b .number ≡ 0 → ⊥) → b ≡ answerOf (joinReasons one two room)
+    pub second-refused : (b : Answer) → b ≡ answerOf (newReasons two lengths) → (b .number ≡ 0 → ⊥) → b ≡ answerOf (joinReasons one two room)
     second-refused b f h = refused-later ofOne (ofTwo ++ ofPair) one-numbers a b e zero (refused-first ofTwo ofPair two-numbers b (own b f) h)
 
-    pub pair-decided : (b c : Answer) → b ≡ answerOf (readReasons two lengths) → b .number ≡ 0 → c ≡ answerOf ofPair → c ≡ answerOf (joinReasons one two room)
+    pub pair-decided : (b c : Answer) → b ≡ answerOf (newReasons two lengths) → b .number ≡ 0 → c ≡ answerOf ofPair → c ≡ answerOf (joinReasons one two room)
     pair-decided b c f z g =
         refused-later ofOne (ofTwo ++ ofPair) one-numbers a c e zero (refused-later ofTwo ofPair two-numbers b c (own b f) z g)
+
+  pub first-retired : badFirst one .applies ≡ false → sheetP one ≡ 97 → answerOf (joinReasons one two room) ≡ record { number = 16; detail = 0 }
+  first-retired h e = sym (first-refused _ (sym (new-retired one lengths h e)) (λ z. omega (arith, z)))
+
+  pub second-retired : answerOf (newReasons one (badLengths (length one ∷ length two ∷ room ∷ []) (joinDue (length one) (length two)) ∷ [])) .number ≡ 0
+      → badFirst two .applies ≡ false → sheetP two ≡ 97 → answerOf (joinReasons one two room) ≡ record { number = 16; detail = 0 }
+  second-retired zero h e = sym (second-refused _ refl zero _ (sym (new-retired two lengths h e)) (λ z. omega (arith, z)))
 
   pub joinable-of : answerOf (joinReasons one two room) .number ≡ 0 → Joinable (onSheet one) (onSheet two)
   joinable-of e =
       let first = both-none ofOne (ofTwo ++ ofPair) one-numbers e in
       let second = both-none ofTwo ofPair two-numbers (first .1) in
-      let T = taken-of one lengths (omega arith, tt) (first .0) .0 in
+      let new = new-of one lengths (first .0) in
+      let T = taken-of one lengths (omega arith, tt) (new .1) .0 in
       let none = none-applies ofPair (omega arith, (omega arith, tt)) (second .1) in
       let same = and-eq-true-iff (eqb (sheetP one) (sheetP two)) (eqb (sheetN one) (sheetN two)) .0 (not-false _ (none .0)) in
       let rows = both-false (not (isRows (sheetP one) (2 * sheetN one))) (ltb sheetRows (2 * sheetN one)) (none .1 .0) in
       record {
         one = filled-of one T;
-        two = filled-of two (taken-of two [] tt (second .0) .0);
+        two = filled-of two (taken-of two [] tt (new-of two [] (second .0) .1) .0);
         same-p = eqb-true (sheetP one) (sheetP two) (same .0);
         same-n = eqb-true (sheetN one) (sheetN two) (same .1);
+        current = new .0;
         admissible = record { one-of-three = T .shape .admissible .one-of-three; rows = not-false _ (rows .0) };
         few = ltb-false sheetRows (2 * sheetN one) (rows .1);
       }
@@ -141,7 +152,7 @@ module _ (one two : List ℕ) (room : ℕ) where
   pub room-is : answerOf (joinReasons one two room) .number ≡ 0 → room ≡ joinedLength
   room-is e =
       let first = both-none ofOne (ofTwo ++ ofPair) one-numbers e in
-      let none = none-applies lengths (omega arith, tt) (taken-of one lengths (omega arith, tt) (first .0) .1) in
+      let none = none-applies lengths (omega arith, tt) (taken-of one lengths (omega arith, tt) (new-of one lengths (first .0) .1) .1) in
       cc (lengths-same (length one ∷ length two ∷ room ∷ []) (joinDue (length one) (length two)) refl (none .0))
 
 -- THE PROMISE

@@ -18,7 +18,7 @@
 -- joinDue               the lengths due of the two sheets, which have whatever lengths they have, and of the written buffer
 -- otherShape            15: the prime or n differ
 -- pairReasons           15, and 3 where the doubled n is too great
--- joinReasons           of `join`: those of the first sheet, with 6 for the written buffer among them; those of the second; those of the pair
+-- joinReasons           of `join`: those of the first sheet as a new one, with 6 for the written buffer among them; those of the second; those of the pair
 -- THE PROMISE
 -- Joins                 refused: the buffer as it came; accepted: the joined sheet, and zeros behind it
 --
@@ -34,7 +34,7 @@ use Rattle.algebra.specs.Lists.{tab}
 use Rattle.field.specs.Reasons.{Reason, answerOf, isAccepted, badRows, badLengths}
 use Rattle.circuit.specs.Circuit.{Constraints, position, lentConstraints, lentWitness, laidWitness, lentPublic, Satisfies}
 use Rattle.circuit.specs.Buffers.{selectorsLength, labelsLength, witnessLength}
-use Rattle.sheet.specs.Sheet.{sheetRows, sheetP, sheetN, sheetL, onSelectors, onLabels, onWitness, onPublics, onChallenges, readReasons}
+use Rattle.sheet.specs.Sheet.{sheetRows, sheetP, sheetN, sheetL, onSelectors, onLabels, onWitness, onPublics, onChallenges, newReasons}
 use Rattle.sheet.specs.Written.{sheetText}
 use Rattle.joining.specs.declared.Joined.{Joined}
 
@@ -131,8 +131,8 @@ pairReasons p n p' n' = otherShape p n p' n' ∷ badRows p (2 * n) sheetRows ∷
 -- `joined` is the length of the written buffer
 abbrev pub joinReasons : (one two : List ℕ) (joined : ℕ) → List Reason
 joinReasons one two joined =
-    readReasons one (badLengths (length one ∷ length two ∷ joined ∷ []) (joinDue (length one) (length two)) ∷ [])
-    ++ (readReasons two [] ++ pairReasons (sheetP one) (sheetN one) (sheetP two) (sheetN two))
+    newReasons one (badLengths (length one ∷ length two ∷ joined ∷ []) (joinDue (length one) (length two)) ∷ [])
+    ++ (newReasons two [] ++ pairReasons (sheetP one) (sheetN one) (sheetP two) (sheetN two))
 
 -- THE PROMISE
 

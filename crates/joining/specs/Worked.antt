@@ -1,7 +1,7 @@
 -- Document 01's worked sheet joined to the same with row 0 made a public row: the definitions make of both what document 02 says.
 --
 -- second       the second sheet: its challenges begin with 3, to tell them from the first's
--- over97       the first sheet over the prime 97
+-- overLargest  the first sheet over the prime 2013265921
 -- joinedBytes  the joined sheet, written by hand
 -- Worked, worked   the joined sheet, its rows, and the answers to this pair and to pairs near it; that they are so
 --
@@ -15,21 +15,21 @@ use lib.Count.{ones}
 use lib.ListN.{drop}
 use Rattle.algebra.specs.Lists.{tab}
 use Rattle.algebra.specs.Modular.{first}
-use Rattle.field.specs.Fields.{isField, isRows, greatestRows}
+use Rattle.field.specs.Fields.{isField, isCurrent, isRows, greatestRows}
 use Rattle.field.specs.Reasons.{answerOf, firstOther, firstAbove}
 use Rattle.transform.specs.Parts.{laid}
 use Rattle.circuit.specs.Circuit.{lentWitness, laidWitness}
 use Rattle.circuit.specs.Reasons.{unboundRow}
 use Rattle.text.specs.Text.{isDigit, digitsEnd, valueOf, isNumberAt, numberAt, fieldAt, isFieldAt, isLineAt, decimalOf, fieldsText, fieldsOf}
 use Rattle.sheet.specs.Sheet.{fieldsDue, lineAt, numberOf, badLine}
-use Rattle.sheet.specs.Worked.{bytes, without, with, changed}
+use Rattle.sheet.specs.Worked.{bytes, without, with, changed, over97, rows64}
 use Rattle.joining.specs.Joining.{onSheet, sourceRow, fromSecond, joinedAt, joinedNumbers, joinedText, joinReasons}
 
 abbrev pub second : List ℕ
 second = changed 55 51
 
-abbrev pub over97 : List ℕ
-over97 = 57 ∷ drop 1 bytes
+abbrev pub overLargest : List ℕ
+overLargest = 50 ∷ 48 ∷ 49 ∷ 51 ∷ 50 ∷ 54 ∷ 53 ∷ 57 ∷ 50 ∷ 49 ∷ drop 2 bytes
 
 -- 17,4,1: the public row of the second; the two rows of the first; the other row of the second; the wire values in the same order
 abbrev pub joinedBytes : List ℕ
@@ -67,12 +67,18 @@ pub record Worked : Type 0 where
   pub label-first : answerOf (joinReasons (with 39 (49 ∷ [])) [] 65536) ≡ record { number = 8; detail = 5 }
   pub unread-first : answerOf (joinReasons bytes [] 65536) ≡ record { number = 1; detail = 0 }
   -- another prime; another n, though the doubled n is too great as well; and the doubled n alone
-  pub other-prime : answerOf (joinReasons bytes over97 65536) ≡ record { number = 15; detail = 0 }
+  pub other-prime : answerOf (joinReasons bytes overLargest 65536) ≡ record { number = 15; detail = 0 }
   pub other-rows : answerOf (joinReasons joinedBytes bytes 65536) ≡ record { number = 15; detail = 0 }
   pub many-rows : answerOf (joinReasons joinedBytes joinedBytes 65536) ≡ record { number = 3; detail = 0 }
+  -- 97 in the first sheet comes before its 3 and before the written buffer; in the second, behind all of the first's, and before the second's 3 and 15
+  pub first-97 : answerOf (joinReasons over97 second 65535) ≡ record { number = 16; detail = 0 }
+  pub first-64 : answerOf (joinReasons rows64 second 65536) ≡ record { number = 16; detail = 0 }
+  pub second-97 : answerOf (joinReasons bytes over97 65536) ≡ record { number = 16; detail = 0 }
+  pub second-64 : answerOf (joinReasons bytes rows64 65536) ≡ record { number = 16; detail = 0 }
+  pub label-then-97 : answerOf (joinReasons (with 39 (49 ∷ [])) over97 65536) ≡ record { number = 8; detail = 5 }
 
 pub worked : Worked
-unfolding tab first isDigit digitsEnd valueOf isNumberAt numberAt fieldAt isFieldAt isLineAt fieldsDue lineAt numberOf badLine isField isRows greatestRows firstOther firstAbove unboundRow laid decimalOf fieldsText fieldsOf ones lentWitness laidWitness sourceRow joinedAt
+unfolding tab first isDigit digitsEnd valueOf isNumberAt numberAt fieldAt isFieldAt isLineAt fieldsDue lineAt numberOf badLine isField isCurrent isRows greatestRows firstOther firstAbove unboundRow laid decimalOf fieldsText fieldsOf ones lentWitness laidWitness sourceRow joinedAt
 worked =
     record {
       row-0 = refl;
@@ -93,4 +99,9 @@ worked =
       other-prime = refl;
       other-rows = refl;
       many-rows = refl;
+      first-97 = refl;
+      first-64 = refl;
+      second-97 = refl;
+      second-64 = refl;
+      label-then-97 = refl;
     }

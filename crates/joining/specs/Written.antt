@@ -1,13 +1,14 @@
 -- The joined sheet as a text: it fits, and reading it gives the joined numbers back.
 --
 -- joined-fits      the joined sheet has at most 65,536 bytes
--- joined-accepted  reading it is accepted
+-- joined-accepted, joined-new   reading it is accepted, and so is taking it as a new sheet
 -- joined-back      and gives the joined numbers
 --
 -- Assumes nothing.
-use mathlib.Core.Path.{_≡_}
+use mathlib.Core.Path.{_≡_, _∙_}
 use mathlib.Core.Logic.{_⊎_, inl, inr}
-use mathlib.Core.List.{List}
+use mathlib.Core.Bool.{true}
+use mathlib.Core.List.{List, []}
 use Prim.Native.Nat.{ℕ, _*_, _/_, _%_, _≤_, _<_}
 use native.Mathlib.Nat.{mod-lt, div-lt-iff-lt-mul}
 use native.Mathlib.Omega.{arith}
@@ -16,12 +17,14 @@ use Rattle.algebra.specs.Ends.{run-room}
 use Rattle.algebra.specs.Lists.{All}
 use Rattle.algebra.specs.Polynomial.{Elements}
 use Rattle.algebra.specs.Tables.{length-tab, all-append, all-getD, all-of}
+use Rattle.field.specs.Fields.{isCurrent}
 use Rattle.field.specs.Primes.{by-field, rows-power}
 use Rattle.circuit.specs.Circuit.{position, lentWitness}
 use Rattle.circuit.specs.Buffers.{witnessLength}
 use Rattle.circuit.specs.RightlyLent.{RightCircuit, selectors-right, labels-right}
 use Rattle.circuit.specs.Witness.{laid-elements, lent-below}
-use Rattle.sheet.specs.Sheet.{readAnswer}
+use Rattle.sheet.specs.Sheet.{sheetP, readAnswer, newAnswer}
+use Rattle.sheet.specs.Deciding.{new-same}
 use Rattle.sheet.specs.Written.{Small, Right}
 use Rattle.sheet.specs.Fits.{sheet-long}
 use Rattle.sheet.specs.ReadBack.{SheetBack, sheet-back, Admitted, sheet-taken}
@@ -114,6 +117,13 @@ module _ (A B : Numbers) (joinable : Joinable A B) where
 
   pub joined-accepted : readAnswer (textOf J) ≡ record { number = 0; detail = 0 }
   joined-accepted = sheet-taken (textOf J) (J .p) (J .n) (J .l) (J .selectors) (J .labels) (J .witness) (J .publics) (J .challenges) back admitted
+
+  -- its prime is that of the first sheet
+  current : isCurrent (sheetP (textOf J)) ≡ true
+  current = rw (back .p-is) (joinable .current)
+
+  pub joined-new : newAnswer (textOf J) ≡ record { number = 0; detail = 0 }
+  joined-new = new-same (textOf J) [] current ∙ joined-accepted
 
   pub joined-back : onSheet (textOf J) ≡ J
   joined-back =

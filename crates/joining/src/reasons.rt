@@ -49,21 +49,21 @@ fn decide_pair(p: u32, n: u32, q: u32, k: u32) -> Answer
     field::accepted()
 }
 
-// The reasons of the first sheet, with that of the written buffer among them, those of the second, and those of the pair. `room` is the
-// length of the written buffer. The tables are filled where none applies.
+// The reasons of the first sheet as a new one, with that of the written buffer among them, those of the second, and those of the pair. `room` is
+// the length of the written buffer. The tables are filled where none applies.
 pub fn decide(one: &[u8], two: &[u8], room: usize, first: &mut [u32], second: &mut [u32]) -> Pair
     requires { ⌜ (length (now first) ≡ 6160) × (length (now second) ≡ 6160) ⌝ }
     ensures { λ r. ⌜ Decides (now (one .entry)) (now (two .entry)) room r (now (first .exit)) (now (second .exit)) ⌝ }
 {
     let long = [one.len(), two.len(), room];
     let due = [one.len(), two.len(), 65536];
-    let a = sheet::decide(one, first, &long, &due);
+    let a = sheet::decide_new(one, first, &long, &due);
     let answer = a.answer;
     let number = answer.number;
     if number != 0 {
         return turned_down(answer);
     }
-    let b = sheet::decide(two, second, &long, &due);
+    let b = sheet::decide_new(two, second, &long, &due);
     let answer = b.answer;
     let number = answer.number;
     if number != 0 {

@@ -7,6 +7,7 @@ use super::sheets::FOUR;
 use super::sheets::LABEL;
 use super::sheets::OPEN;
 use super::sheets::OVER_97;
+use super::sheets::OVER_LARGEST;
 use super::sheets::PUBLIC;
 use super::sheets::UNBOUND;
 use super::sheets::WORKED;
@@ -24,7 +25,7 @@ fn own() {
 // 15: the prime or n differ. It comes before 3, which is for the doubled n.
 fn pairs() {
     line(b"15: two rows and four", &WORKED, &FOUR);
-    line(b"15: 17 and 97", &WORKED, &OVER_97);
+    line(b"15: 17 and the largest prime", &WORKED, &OVER_LARGEST);
     line(b"3: four rows twice", &FOUR, &FOUR);
     line(b"15 before 3: four rows and two", &FOUR, &WORKED);
 }
@@ -42,7 +43,23 @@ fn lengths() {
 fn order() {
     line(b"8 of the first before 1 of the second", &LABEL, b"");
     line(b"1 of the second before 3", &FOUR, b"");
-    line(b"14 of the second before 15", &OVER_97, &UNBOUND);
+    line(b"14 of the second before 15", &OVER_LARGEST, &UNBOUND);
+}
+
+// 16: 97 is retired. It stands among each sheet's own reasons, straight after 2.
+fn retired() {
+    either_place(b"97", &OVER_97);
+    either_place(b"16 before 3: 97 with 64 rows", b"97,64,0\n");
+    either_place(b"16 before 4: 97, l is 3", b"97,2,3\n");
+    either_place(b"16 before 5: no line behind the first", b"97,2,0\n");
+    either_place(b"1 before 16: the first line is open", b"97,2,0");
+    either_place(b"98", b"98,2,0\n");
+    line(b"97 twice", &OVER_97, &OVER_97);
+    line(b"16 of the first before 1 of the second", &OVER_97, b"");
+    line(b"14 of the first before 16 of the second", &UNBOUND, &OVER_97);
+    line(b"16 of the second before 15 and 3", &FOUR, &OVER_97);
+    lent(b"16 of the first before 6", &OVER_97, &WORKED, 65535);
+    lent(b"6 before 16 of the second", &WORKED, &OVER_97, 65535);
 }
 
 pub fn run() {
@@ -50,4 +67,5 @@ pub fn run() {
     pairs();
     lengths();
     order();
+    retired();
 }

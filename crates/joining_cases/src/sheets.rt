@@ -24,6 +24,10 @@ pub const FOUR: [u8; 106] =
 pub const OVER_97: [u8; 62] =
     *b"97,2,0\n0,0,96,1,0,0,1,2\n1,1,96,0,0,2,2,3\n2,3,6\n6,6,12\n1,1,2,2\n";
 
+// The worked sheet over the largest prime.
+pub const OVER_LARGEST: [u8; 86] =
+    *b"2013265921,2,0\n0,0,2013265920,1,0,0,1,2\n1,1,2013265920,0,0,2,2,3\n2,3,6\n6,6,12\n1,1,2,2\n";
+
 // The worked sheet with one thing wrong: the line of the challenges is missing (5, detail 6), the last wire value is 17 (7, detail 15), the last
 // label is 6 (8, detail 5); and with row 0 no public row where l is 1 (14, detail 0).
 pub const OPEN: [u8; 54] = *b"17,2,0\n0,0,16,1,0,0,1,2\n1,1,16,0,0,2,2,3\n2,3,6\n6,6,12\n";

@@ -29,8 +29,8 @@ fn pair(label: &[u8], p: u32, n: u32, l: u32, k: u32, m: u32)
 fn greatest() {
     pair(b"128 rows twice, l is 5 and 128", LARGEST, 128, 5, 128, 128);
     pair(b"256 rows twice", LARGEST, 256, 0, 256, 0);
-    pair(b"97 with 16 rows twice", 97, 16, 3, 16, 4);
-    pair(b"97 with 32 rows twice", 97, 32, 0, 32, 32);
+    pair(b"17 with 2 rows twice", 17, 2, 1, 2, 2);
+    pair(b"17 with 4 rows twice", 17, 4, 0, 4, 4);
     pair(b"15 before 3: 256 rows and 128", LARGEST, 256, 0, 128, 0);
 }
 

@@ -1,7 +1,8 @@
--- What the count of `lost_gammas` is worth: for a witness that satisfies its circuit it is the number of gammas that `prove` refuses with 11.
+-- What the count of `lost_gammas` is worth: for a witness that satisfies its circuit it is the number of gammas that meet 11's condition, and that `prove` refuses with 11.
 --
 -- lost-taken        no reason applies to 3n elements and one beta below p
--- count-refused     lent the witness of an honest prover and a beta, the call's count is exactly the number of gammas that `prove` refuses with 11, for every alpha
+-- count-zero        over any of the three primes: lent a witness that satisfies a circuit and a beta, the call's count is exactly the number of gammas with a zero factor of some D(i)
+-- count-refused     over a prime that may be proved with: lent the witness of an honest prover and a beta, it is exactly the number of gammas that `prove` refuses with 11, for every alpha
 --
 -- A call's answer is any that keeps the call's promise: LosesGammas, and Proves in RefusedBy11.
 -- Assumes nothing.
@@ -18,9 +19,10 @@ use Rattle.field.specs.Fields.{Admissible}
 use Rattle.field.specs.Lent.{lent-numbers, lent-taken}
 use Rattle.field.specs.Reasons.{answerOf, isAccepted, lentReasons, badElement}
 use Rattle.field.specs.ReasonLaws.{taken, both-taken, elements-none}
-use Rattle.circuit.specs.Circuit.{lentWitness}
+use Rattle.circuit.specs.Circuit.{Constraints, Circuit, lentWitness, Satisfies}
 use Rattle.circuit.specs.Buffers.{witnessLength}
 use Rattle.protocol.specs.Protocol.{lostGammas}
+use Rattle.protocol.specs.Demand3.{ZeroPair, demand-3}
 use Rattle.witnesses.specs.Accepted.{Honest}
 use Rattle.prover.specs.Refusals.{RefusedBy11, refusals-counted}
 use Rattle.losses.specs.declared.Counted.{Counted}
@@ -34,14 +36,25 @@ lost-taken {p} {n} A {witness} {challenges} w c =
     (lent-taken (record { admissible = A; publics-few = omega arith; lengths = cc (w .long, c .long) }))
     (taken (badElement p (witness ++ challenges) ∷ []) (elements-none p (witness ++ challenges) (all-append (λ (a : ℕ). a < p) witness challenges (w .below) (c .below)), tt))
 
+module _ {p n : ℕ} (A : Admissible p n) {witness : List ℕ} (w : Elements p (witnessLength n) witness) (beta : ℕ) (hβ : beta < p) (r : Counted)
+    (L : LosesGammas p n witness (beta ∷ []) r) where
+  count-is : r .count ≡ lostGammas p n (lentWitness n witness) beta
+  count-is =
+      let drawn : Elements p 1 (beta ∷ []) = record { long = refl; below = (hβ, tt) } in
+      let yes : isAccepted (r .answer) ≡ true = ap isAccepted (L .answer ∙ lost-taken A w drawn) in
+      L .count ∙ ap (λ (b : Bool). cond b (lostGammas p n (lentWitness n witness) beta) 0) yes
+
+  pub count-zero : {l : ℕ} (C : Constraints) → Circuit p n l C → (x : ℕ → ℕ) → Satisfies p n C x (lentWitness n witness)
+      → Exactly (r .count) (λ gamma. ZeroPair p n C (lentWitness n witness) (beta, gamma))
+  count-zero {l} C circuit x satisfies =
+      subst (λ (K : ℕ). Exactly K (λ gamma. ZeroPair p n C (lentWitness n witness) (beta, gamma))) (sym count-is)
+      (demand-3 p n l A C circuit .lost-gammas x (lentWitness n witness) satisfies beta hβ)
+
 pub count-refused : {p n l : ℕ} {selectors labels witness publics transcript scratch : List ℕ}
     → Honest p n l selectors labels witness publics transcript scratch
     → (beta : ℕ) → beta < p → (r : Counted) → LosesGammas p n witness (beta ∷ []) r
     → (alpha : ℕ) → alpha < p → Exactly (r .count) (λ gamma. RefusedBy11 p n l selectors labels witness publics transcript scratch alpha (beta, gamma))
 count-refused {p} {n} {l} {selectors} {labels} {witness} {publics} {transcript} {scratch} H beta hβ r L alpha hα =
-    let drawn : Elements p 1 (beta ∷ []) = record { long = refl; below = (hβ, tt) } in
-    let yes : isAccepted (r .answer) ≡ true = ap isAccepted (L .answer ∙ lost-taken (H .admissible) (H .witness-right) drawn) in
-    let count : r .count ≡ lostGammas p n (lentWitness n witness) beta =
-    L .count ∙ ap (λ (b : Bool). cond b (lostGammas p n (lentWitness n witness) beta) 0) yes in
-    subst (λ (K : ℕ). Exactly K (λ gamma. RefusedBy11 p n l selectors labels witness publics transcript scratch alpha (beta, gamma))) (sym count)
+    subst (λ (K : ℕ). Exactly K (λ gamma. RefusedBy11 p n l selectors labels witness publics transcript scratch alpha (beta, gamma)))
+    (sym (count-is (H .admissible) (H .witness-right) beta hβ r L))
     (refusals-counted p n l selectors labels witness publics transcript scratch alpha hα H .gammas beta hβ)

@@ -3,7 +3,7 @@ mod calls;
 mod counts;
 mod edges;
 mod sheet;
-mod sizes;
+pub mod sizes;
 
 pub fn run() {
     edges::run();

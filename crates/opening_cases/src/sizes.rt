@@ -79,8 +79,8 @@ fn lines<'a>(
     );
 }
 
-// The same, with the other buffers.
-fn lent<'a>(p: u32, n: u32, prepared: &'a [u32], transcript: &'a [u32])
+// The three lines on a prepared circuit and a transcript.
+pub fn every_polynomial<'a>(p: u32, n: u32, prepared: &'a [u32], transcript: &'a [u32])
     requires { ⌜ 2 ≤ n ⌝ }
 {
     let list = [12, 11, 10, 9, 8, 7, 6, 5, 4, 3, 2, 1, 0];
@@ -112,7 +112,7 @@ fn size(p: u32, n: u32)
     buffers::fill(p - 1, &mut transcript);
     let a = buffers::within(&prepared, 8 * (n as usize));
     let b = buffers::within(&transcript, 7 * (n as usize) - 3);
-    lent(p, n, &prepared[..a], &transcript[..b]);
+    every_polynomial(p, n, &prepared[..a], &transcript[..b]);
 }
 
 pub fn run() {

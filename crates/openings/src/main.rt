@@ -6,13 +6,13 @@
 // counts but the first.
 ghost use Prim.Native.Nat.{_≤_};
 ghost use lib.ListN.{length};
+ghost use Rattle.io.specs.Counts.{Counts};
 use case_tools::buffers;
+use case_tools::lines;
 use case_tools::print;
 use libc::STDIN_FILENO;
 use libc::STDOUT_FILENO;
 use pointcheck::Judged;
-
-mod lines;
 
 // The check's verdict.
 fn judged<'a>(
@@ -167,6 +167,15 @@ fn results<'a>(
     print::end();
 }
 
+// The numbers of a line of a text, at the start of `out`; how many there are.
+fn numbers(s: &[u8], line: usize, out: &mut [u32]) -> usize
+    requires { ⌜ length (now s) ≤ 65536 ⌝ }
+    ensures { λ r. ⌜ Counts r (now (out .exit)) ⌝ }
+{
+    let at = lines::start(s, line);
+    lines::numbers(s, at, out)
+}
+
 // The block with which a text starts.
 fn block(s: &[u8])
     requires { ⌜ length (now s) ≤ 65536 ⌝ }
@@ -178,13 +187,13 @@ fn block(s: &[u8])
     let mut challenges = [0u32; 2];
     let mut evaluations = buffers::short();
     let mut opening = buffers::short();
-    lines::numbers(s, 0, &mut shape);
-    let a = lines::numbers(s, 1, &mut prepared);
-    let b = lines::numbers(s, 2, &mut transcript);
-    let c = lines::numbers(s, 3, &mut list);
-    lines::numbers(s, 4, &mut challenges);
-    let d = lines::numbers(s, 5, &mut evaluations);
-    let e = lines::numbers(s, 6, &mut opening);
+    numbers(s, 0, &mut shape);
+    let a = numbers(s, 1, &mut prepared);
+    let b = numbers(s, 2, &mut transcript);
+    let c = numbers(s, 3, &mut list);
+    numbers(s, 4, &mut challenges);
+    let d = numbers(s, 5, &mut evaluations);
+    let e = numbers(s, 6, &mut opening);
     results(
         s,
         shape[0],

@@ -4,7 +4,7 @@
 -- Sheet, constraints, publics, witness     a sheet of document 01 as its numbers are lent, and what the definitions read in it
 -- gates, transcriptOf, rowCheck, pointCheck, broken   the definitions at a sheet; broken: where 14, 9, 10 and 11 apply (l, n, 3n, n: nowhere)
 -- seventeen, ninetySeven, largest      a valid sheet of four rows for each prime
--- unbound                              a sheet of prime 97 that is refused by 14
+-- unbound                              a sheet of prime 97 that reading refuses by 14
 -- brokenRow, brokenPosition, zeroRow   sheets of prime 17 that are refused by 9, 10 and 11
 -- largestPosition, largestZero         sheets of the largest prime that are refused by 10 and 11
 -- table                                the cases of 17 and 97, which antt computes as they stand

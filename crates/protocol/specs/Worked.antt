@@ -1,8 +1,9 @@
--- The cases that document 01 marks ★ ("On the sheet above, and at its edges"), what its program prints, and how often 11 applies (document 02), as one table under one
--- statement.
+-- The cases that document 01 marks ★ ("On the sheet above, and at its edges"), what its program prints, how often 11 applies and where 16 does (document 02), as one table
+-- under one statement.
 --
 -- circuit, publics, witness       the sheet of document 01: prime 17, two rows, no public inputs; beta, gamma, alpha, zeta are 1, 1, 2, 2
 -- lastIs11, rowIs5-7-12           the witness with the last value 11, and with row 1 as 5, 7, 12
+-- proveAnswer p n                 the answer to `prove` over p and n rows, lent the sheet's numbers
 -- zWorked, transcriptWorked       z at beta 1, gamma 1; the transcript at alpha 2
 -- Value, Case                     a number, an inverse, numbers, numbers if there are any, an answer or a verdict; what a case is about, what the definitions make of it, what document 01 says
 -- _&_                             proofs of the rows of a table, one after the other
@@ -19,17 +20,19 @@ use mathlib.Core.Option.{Option, none, some}
 use Prim.Native.Nat.{ℕ, _+_, _*_, _^_, _%_, pred}
 use Prim.Native.String.{String}
 use native.Mathlib.Omega.{arith}
+use lib.Count.{ones}
 use lib.Dec.{eqb}
+use lib.ListN.{replicate}
 use borrow.Author.Tests.{eqb-true}
 use Rattle.algebra.specs.Lists.{tab, gathered, All, occurs, different}
 use Rattle.algebra.specs.Modular.{powF, first, inverse}
 use Rattle.algebra.specs.Polynomial.{eval, quotientVanishing, reduced}
 use Rattle.field.specs.declared.Answer.{Answer}
-use Rattle.field.specs.Fields.{generator, root, point, multiplier, tag}
+use Rattle.field.specs.Fields.{isField, isCurrent, isRows, greatestRows, generator, root, point, multiplier, tag}
 use Rattle.field.specs.Reasons.{answerOf}
 use Rattle.transform.specs.Transform.{interpolation}
 use Rattle.circuit.specs.Circuit.{Constraints, lentConstraints, lentWitness, lentPublic, permutation, gate}
-use Rattle.protocol.specs.Protocol.{runningZ, rowN, rowD, zRows, polyN, polyD, polyL, gatePart, stepPart, startPart, polyF, quotient, preparedPoly, prepared, wiresOf, zOf, tOf, proved, RowVerdict, pass, fails, startIdentity, stepIdentity, rowsFrom, rowVerdict, PointVerdict, accept, pointVerdict, brokenGate, brokenCopy, zeroFactor, witnessReasons, tagged, lostGammas, lostPairs}
+use Rattle.protocol.specs.Protocol.{runningZ, rowN, rowD, zRows, polyN, polyD, polyL, gatePart, stepPart, startPart, polyF, quotient, preparedPoly, prepared, wiresOf, zOf, tOf, proved, RowVerdict, pass, fails, startIdentity, stepIdentity, rowsFrom, rowVerdict, PointVerdict, accept, pointVerdict, brokenGate, brokenCopy, zeroFactor, witnessReasons, proveReasons, tagged, lostGammas, lostPairs}
 
 -- THE SHEET
 
@@ -47,6 +50,11 @@ lastIs11 = lentWitness 2 (2 ∷ 6 ∷ 3 ∷ 6 ∷ 6 ∷ 11 ∷ [])
 
 abbrev pub rowIs5-7-12 : ℕ → ℕ
 rowIs5-7-12 = lentWitness 2 (2 ∷ 5 ∷ 3 ∷ 7 ∷ 6 ∷ 12 ∷ [])
+
+abbrev pub proveAnswer : ℕ → ℕ → Answer
+proveAnswer p n =
+    answerOf
+    (proveReasons p n 0 (0 ∷ 1 ∷ 0 ∷ 1 ∷ 16 ∷ 16 ∷ 1 ∷ 0 ∷ 0 ∷ 0 ∷ []) (0 ∷ 2 ∷ 1 ∷ 2 ∷ 2 ∷ 3 ∷ []) (2 ∷ 6 ∷ 3 ∷ 6 ∷ 6 ∷ 12 ∷ []) [] (replicate 11 0) (1 ∷ 1 ∷ 2 ∷ []) (replicate 32 0))
 
 -- z at beta 1, gamma 1; the transcript, F and t at alpha 2
 abbrev pub zWorked : List ℕ
@@ -110,6 +118,10 @@ table =
     ∷ record { what = "beta 1: contents + marks"; is = numbers (tab (tagged 17 2 witness 1) 6); should = numbers (3 ∷ 5 ∷ 6 ∷ 3 ∷ 15 ∷ 3 ∷ []) }
     ∷ record { what = "beta 1 loses 4 gammas"; is = number (lostGammas 17 2 witness 1); should = number 4 }
     ∷ record { what = "gammas lost for each beta"; is = numbers (tab (lostGammas 17 2 witness) 17); should = numbers (4 ∷ 4 ∷ 5 ∷ 6 ∷ 6 ∷ 4 ∷ 5 ∷ 6 ∷ 4 ∷ 5 ∷ 6 ∷ 6 ∷ 6 ∷ 6 ∷ 6 ∷ 6 ∷ 6 ∷ []) }
+    ∷ record { what = "the sheet's buffers over 97: 16"; is = answer (proveAnswer 97 2); should = answer (record { number = 16; detail = 0 }) }
+    ∷ record { what = "97 with 64 rows: 16"; is = answer (proveAnswer 97 64); should = answer (record { number = 16; detail = 0 }) }
+    ∷ record { what = "18 with 3 rows: 2"; is = answer (proveAnswer 18 3); should = answer (record { number = 2; detail = 0 }) }
+    ∷ record { what = "17 with 8 rows: 3"; is = answer (proveAnswer 17 8); should = answer (record { number = 3; detail = 0 }) }
     ∷ record { what = "pairs lost, of 289"; is = number (lostPairs 17 2 witness); should = number 91 }
     ∷ []
 
@@ -121,8 +133,8 @@ pub record Worked : Type 0 where
   pub no-z : (z : ℕ → ℕ) → rowVerdict 17 2 circuit publics rowIs5-7-12 z 1 1 ≢ pass
 
 right : All (λ r. r .is ≡ r .should) table
-unfolding tab gathered occurs different powF first inverse quotientVanishing reduced generator root point multiplier tag interpolation lentWitness permutation gate rowN rowD runningZ polyN polyD polyL gatePart stepPart startPart polyF quotient prepared rowsFrom pointVerdict brokenGate brokenCopy zeroFactor tagged lostGammas lostPairs
-right = refl & refl & refl & refl & refl & refl & refl & refl & refl & refl & refl & refl & refl & refl & refl & refl & refl & refl & refl & refl & refl & refl & refl & refl & refl & refl & refl & tt
+unfolding isField isCurrent isRows greatestRows ones tab gathered occurs different powF first inverse quotientVanishing reduced generator root point multiplier tag interpolation lentWitness permutation gate rowN rowD runningZ polyN polyD polyL gatePart stepPart startPart polyF quotient prepared rowsFrom pointVerdict brokenGate brokenCopy zeroFactor tagged lostGammas lostPairs
+right = refl & refl & refl & refl & refl & refl & refl & refl & refl & refl & refl & refl & refl & refl & refl & refl & refl & refl & refl & refl & refl & refl & refl & refl & refl & refl & refl & refl & refl & refl & refl & tt
 
 -- N is 6, 15 and D is 15, 0: the two steps ask for z(1) × 15 to be 6, and to be 0
 abbrev byTests : Bool → Bool → Bool → RowVerdict

@@ -4,7 +4,7 @@
 -- RefusedBy11          the pair (beta, gamma) is one for which some answer of `prove`, lent these buffers and the challenges beta, gamma, alpha, has the number 11
 -- RefusalsCounted      exactly how many gammas with each beta, and how many pairs, are refused by 11; and that `prove` is accepted for all others
 -- THE THEOREM
--- refusals-counted     RefusalsCounted holds of buffers that are lent rightly, with a witness that satisfies the circuit (`Honest`), and every alpha
+-- refusals-counted     RefusalsCounted holds of buffers that are lent rightly over a prime that may be proved with, with a witness that satisfies the circuit (`Honest`), and every alpha
 --
 -- A call's answer r is any that keeps the promise Proves. `Exactly K P` says that K things satisfy P.
 -- Assumes nothing.

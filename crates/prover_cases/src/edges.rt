@@ -36,6 +36,44 @@ fn primes() {
     numbers(b"greatest number for a prime", 4294967295, 2, 0, 2, 0);
 }
 
+// Reason 16: 97 is retired, whatever else is wrong. The numbers beside it are no primes of the workbench.
+fn retired() {
+    numbers(b"97", 97, 2, 0, 16, 0);
+    numbers(b"97 with 32 rows", 97, 32, 0, 16, 0);
+    numbers(b"16 before 3: 97 with 64 rows", 97, 64, 0, 16, 0);
+    numbers(b"16 before 4: 97, l is 3", 97, 2, 3, 16, 0);
+    numbers(b"96", 96, 2, 0, 2, 0);
+    numbers(b"98", 98, 2, 0, 2, 0);
+    line(
+        b"the worked sheet's equations over 97",
+        Case::sheet()
+            .rows(97, 2)
+            .with(SELECTORS, 4, 96)
+            .with(SELECTORS, 5, 96)
+            .gives(16, 0),
+    );
+}
+
+// Reason 16 before those of the buffers.
+fn retired_first() {
+    line(
+        b"16 before 6",
+        Case::sheet().rows(97, 2).short(SELECTORS).gives(16, 0),
+    );
+    line(
+        b"16 before 7",
+        Case::sheet().rows(97, 2).with(WITNESS, 0, 97).gives(16, 0),
+    );
+    line(
+        b"16 before 8",
+        Case::sheet().rows(97, 2).with(LABELS, 0, 6).gives(16, 0),
+    );
+    line(
+        b"16 before 14",
+        Case::sheet().rows(97, 2).publics(1).gives(16, 0),
+    );
+}
+
 // Reason 3: the rows. Those that are taken meet reason 6, as the buffers are the sheet's.
 fn rows() {
     numbers(b"no row", 17, 0, 0, 3, 0);
@@ -43,8 +81,6 @@ fn rows() {
     numbers(b"three rows", 17, 3, 0, 3, 0);
     numbers(b"4 rows taken", 17, 4, 0, 6, 1);
     numbers(b"8 rows", 17, 8, 0, 3, 0);
-    numbers(b"32 rows taken", 97, 32, 0, 6, 1);
-    numbers(b"64 rows", 97, 64, 0, 3, 0);
 }
 
 // The same over the largest prime, and numbers whose buffers would be longer than any.
@@ -332,6 +368,8 @@ fn first_contents() {
 pub fn run() {
     accepted();
     primes();
+    retired();
+    retired_first();
     rows();
     many_rows();
     publics();

@@ -40,8 +40,7 @@ fn meets_zero(
     answer.number == 11
 }
 
-// The first gamma upward from `start`, modulo p, that meets no zero denominator: at most 3n gammas meet one, and 3n is at most 96 where p is
-// 17 or 97.
+// The first gamma upward from `start`, modulo p, that meets no zero denominator: at most 3n gammas meet one, and 3n is at most 12 where p is 17.
 fn find_gamma(
     p: u32,
     n: u32,
@@ -54,14 +53,14 @@ fn find_gamma(
     start: u32,
     alpha: u32,
 ) -> u32 {
-    for k in 0..96 {
+    for k in 0..12 {
         let gamma = generate::mul_add(p, start, 1, k);
         let challenges = [beta, gamma, alpha];
         if !meets_zero(p, n, l, selectors, labels, witness, publics, &challenges) {
             return gamma;
         }
     }
-    generate::mul_add(p, start, 1, 96)
+    generate::mul_add(p, start, 1, 12)
 }
 
 // A digest of the transcript, or `kept`.
@@ -171,7 +170,7 @@ fn refused(
 
 // t's first coefficient raised: the transcript is then accepted at the rows' points only, of which all n are tried over the two small primes, and
 // two over the largest.
-fn change_t(
+pub fn change_t(
     p: u32,
     n: u32,
     l: u32,
@@ -431,15 +430,14 @@ fn others() {
     circuit(b"no row public", 17, 2, 0, 6);
     circuit(b"every row public", 17, 4, 4, 12);
     circuit(b"one variable", 17, 4, 2, 1);
-    circuit(b"one variable", 97, 8, 0, 1);
-    circuit(b"every row public", 97, 32, 32, 96);
+    circuit(b"one variable", 2013265921, 8, 0, 1);
+    circuit(b"every row public", 2013265921, 32, 32, 96);
     circuit(b"three variables", 2013265921, 64, 0, 3);
     circuit(b"every row public", 2013265921, 1024, 1024, 3072);
 }
 
 pub fn run() {
     every_size(17, 4);
-    every_size(97, 32);
     every_size(2013265921, 1024);
     others();
 }

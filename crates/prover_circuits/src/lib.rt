@@ -1,7 +1,7 @@
 // Cases of the prover and of both verdicts: generated circuits of every size.
-mod circuits;
-mod generate;
-mod verdicts;
+pub mod circuits;
+pub mod generate;
+pub mod verdicts;
 
 pub fn run() {
     circuits::run();

@@ -50,7 +50,7 @@ fn is_accept(v: Judged) -> bool {
 }
 
 // Whether the point check accepts at a zeta.
-fn accepts(
+pub fn accepts(
     p: u32,
     n: u32,
     l: u32,
@@ -162,7 +162,7 @@ pub fn print_rows(
 }
 
 // The prepared circuit.
-fn prepared_of(p: u32, n: u32, l: u32, selectors: &[u32], labels: &[u32]) -> [u32; 8192] {
+pub fn prepared_of(p: u32, n: u32, l: u32, selectors: &[u32], labels: &[u32]) -> [u32; 8192] {
     let mut prepared = field::blank_8192();
     let mut scratch = buffers::long();
     let a = buffers::within(&prepared, 8 * (n as usize));

@@ -15,10 +15,11 @@ use Rattle.algebra.specs.Polynomial.{coef, eval, addP, scaleP, mulP, linear, di
 use Rattle.field.specs.Fields.{generator, root, point, multiplier, tag}
 use Rattle.transform.specs.Transform.{evaluation, interpolation}
 use Rattle.transform.specs.Passes.{strided, oddWord, passed}
+use Rattle.circuit.specs.Buffers.{wirePart, zPart, tPart}
 use Rattle.circuit.specs.Circuit.{Constraints, lentConstraints, lentPublic, lentWitness, permutation, gate}
 use Rattle.circuit.specs.Worked.{publicSelectors, labels}
-use Rattle.protocol.specs.Protocol.{wiredTag, runningZ, rowN, rowD, polyN, polyD, polyL, gatePart, stepPart, startPart, polyF, quotient, preparedPoly, prepared, wiresOf, proved, zeroFactor, tagged, lostGammas}
-use Rattle.protocol.specs.Worked.{circuit, publics, witness, rowIs5-7-12, zWorked, Case, number, inverted, numbers, perhaps, _&_}
+use Rattle.protocol.specs.Protocol.{wiredTag, runningZ, rowN, rowD, polyN, polyD, polyL, gatePart, stepPart, startPart, polyF, quotient, preparedPoly, prepared, wiresOf, proved, accept, pointVerdict, zeroFactor, tagged, lostGammas}
+use Rattle.protocol.specs.Worked.{circuit, publics, witness, rowIs5-7-12, zWorked, Case, number, inverted, numbers, perhaps, atPoint, _&_}
 use Rattle.opening.specs.Opening.{polynomialOf, less, named, evaluationsOf, mixtureOf}
 use Rattle.opening.specs.Worked as opened
 
@@ -81,6 +82,25 @@ abbrev meterGate : ℕ → ℕ → ℕ
 meterGate l c =
     gate 2013265921 8 record { qL = λ i. l; qR = λ i. 0; qO = λ i. 0; qM = λ i. 0; qC = λ i. c; label = λ k. k } (λ i. 5798) (λ k. 4798) 4
 
+-- the sheet's equations over 97, where 96 is -1, and the transcript that was filed with them; its parts, and the value of a polynomial at 2
+abbrev filed : Constraints
+filed = lentConstraints 2 (0 ∷ 1 ∷ 0 ∷ 1 ∷ 96 ∷ 96 ∷ 1 ∷ 0 ∷ 0 ∷ 0 ∷ []) labels
+
+abbrev filedTranscript : List ℕ
+filedTranscript = 4 ∷ 95 ∷ 53 ∷ 47 ∷ 9 ∷ 94 ∷ 84 ∷ 14 ∷ 64 ∷ 10 ∷ 87 ∷ []
+
+abbrev filedPre : ℕ → List ℕ
+filedPre = preparedPoly 97 2 filed
+
+abbrev filedWire : ℕ → List ℕ
+filedWire c = wirePart 2 c filedTranscript
+
+abbrev filedZ : List ℕ
+filedZ = zPart 2 filedTranscript
+
+abbrev at2 : List ℕ → ℕ
+at2 f = eval f 2 % 97
+
 abbrev pub table : List Case
 table =
     record { what = "w"; is = number (root 17 2); should = number 16 }
@@ -141,8 +161,24 @@ table =
     ∷ record { what = "the mixture at 2"; is = number (eval mixture 2 % 17); should = number 0 }
     ∷ record { what = "(14 + 8X) × (X - 2)"; is = numbers (reduced 17 3 (mulP (linear 17 2) (14 ∷ 8 ∷ []))); should = numbers (6 ∷ 15 ∷ 8 ∷ []) }
     ∷ record { what = "(15 + X) × (X - 2)"; is = numbers (reduced 17 3 (mulP (linear 17 2) (15 ∷ 1 ∷ []))); should = numbers (4 ∷ 13 ∷ 1 ∷ []) }
+    ∷ record { what = "97: w"; is = number (root 97 2); should = number 96 }
+    ∷ record { what = "97: 1/2"; is = inverted (inverse 97 2); should = inverted (some 49) }
+    ∷ record { what = "97: tags"; is = numbers (tab (tag 97 2) 6); should = numbers (1 ∷ 96 ∷ 5 ∷ 92 ∷ 25 ∷ 72 ∷ []) }
+    ∷ record { what = "97: tags of where the permutation leads"; is = numbers (tab (wiredTag 97 2 filed) 6); should = numbers (1 ∷ 92 ∷ 5 ∷ 25 ∷ 96 ∷ 72 ∷ []) }
+    ∷ record { what = "97: selectors and wired tags as polynomials"; is = numbers (prepared 97 2 filed); should = numbers (49 ∷ 48 ∷ 49 ∷ 48 ∷ 96 ∷ 0 ∷ 49 ∷ 49 ∷ 0 ∷ 0 ∷ 95 ∷ 3 ∷ 15 ∷ 87 ∷ 84 ∷ 12 ∷ []) }
+    ∷ record { what = "97: a, b, c, z and t at 2"; is = numbers (at2 (filedWire 0) ∷ at2 (filedWire 1) ∷ at2 (filedWire 2) ∷ at2 filedZ ∷ at2 (tPart 2 filedTranscript) ∷ []); should = numbers (0 ∷ 50 ∷ 3 ∷ 15 ∷ 44 ∷ []) }
+    ∷ record { what = "97: z at w × 2"; is = number (at2 (dilate (root 97 2) filedZ)); should = number 56 }
+    ∷ record { what = "97: selectors and wired tags at 2"; is = numbers (tab (λ s. at2 (filedPre s)) 8); should = numbers (48 ∷ 48 ∷ 96 ∷ 50 ∷ 0 ∷ 4 ∷ 92 ∷ 11 ∷ []) }
+    ∷ record { what = "97: gate at 2"; is = number (at2 (gatePart 97 filedPre filedWire (interpolation 97 2 publics))); should = number 69 }
+    ∷ record { what = "97: N at 2"; is = number (at2 (polyN 97 filedWire 1 1)); should = number 85 }
+    ∷ record { what = "97: D at 2"; is = number (at2 (polyD filedPre filedWire 1 1)); should = number 55 }
+    ∷ record { what = "97: their difference, times z, at 2"; is = number (at2 (stepPart 97 2 filedPre filedWire filedZ 1 1)); should = number 38 }
+    ∷ record { what = "97: L at 2"; is = number (at2 (polyL 97 2)); should = number 50 }
+    ∷ record { what = "97: (z - 1) × L at 2"; is = number (at2 (startPart 97 2 filedZ)); should = number 21 }
+    ∷ record { what = "97: F(2)"; is = number (at2 (polyF 97 2 filedPre filedWire (interpolation 97 2 publics) filedZ 1 1 2)); should = number 35 }
+    ∷ record { what = "97: the verdict at 2"; is = atPoint (pointVerdict 97 2 (prepared 97 2 filed) publics filedTranscript 1 1 2 2); should = atPoint accept }
     ∷ []
 
 pub by-hand : All (λ r. r .is ≡ r .should) table
-unfolding tab gathered occurs different powF first inverse reduced quotientVanishing remainderVanishing generator root point multiplier tag evaluation interpolation strided passed lentWitness permutation rowN rowD runningZ polyN polyD polyL gatePart stepPart startPart polyF quotient prepared gate zeroFactor tagged lostGammas polynomialOf evaluationsOf mixtureOf
-by-hand = refl & refl & refl & refl & refl & refl & refl & refl & refl & refl & refl & refl & refl & refl & refl & refl & refl & refl & refl & refl & refl & refl & refl & refl & refl & refl & refl & refl & refl & refl & refl & refl & refl & refl & refl & refl & refl & refl & refl & refl & refl & refl & refl & refl & refl & refl & refl & refl & refl & refl & refl & refl & refl & refl & refl & refl & refl & refl & tt
+unfolding tab gathered occurs different powF first inverse reduced quotientVanishing remainderVanishing generator root point multiplier tag evaluation interpolation strided passed lentWitness permutation rowN rowD runningZ polyN polyD polyL gatePart stepPart startPart polyF quotient prepared pointVerdict gate zeroFactor tagged lostGammas polynomialOf evaluationsOf mixtureOf
+by-hand = refl & refl & refl & refl & refl & refl & refl & refl & refl & refl & refl & refl & refl & refl & refl & refl & refl & refl & refl & refl & refl & refl & refl & refl & refl & refl & refl & refl & refl & refl & refl & refl & refl & refl & refl & refl & refl & refl & refl & refl & refl & refl & refl & refl & refl & refl & refl & refl & refl & refl & refl & refl & refl & refl & refl & refl & refl & refl & refl & refl & refl & refl & refl & refl & refl & refl & refl & refl & refl & refl & refl & refl & refl & refl & tt

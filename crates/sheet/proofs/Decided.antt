@@ -1,6 +1,6 @@
 -- The reasons of `read` in parts, and what is known where none applies.
 --
--- first-long, first-bad, first-read   the first line's reasons: the sheet is too long; the line is out of form; it was read
+-- first-long, first-bad, first-read   the reason 1: the sheet is too long; the first line is out of form; it was read
 -- three            the words of the first line
 -- lines-bad, lines-extra, lines-right   the reason of the lines behind it: one is out of form; one is extra; neither
 -- table-reasons    the reasons of the numbers, read off the table
@@ -24,11 +24,11 @@ use Rattle.algebra.specs.Tables.{length-tab, getD-tab}
 use Rattle.field.specs.declared.Answer.{Answer}
 use Rattle.field.specs.Lent.{Shape, lengths-same}
 use Rattle.field.specs.Primes.{rows-power}
-use Rattle.field.specs.Reasons.{Reason, answerOf, shapeReasons, badLengths}
+use Rattle.field.specs.Reasons.{Reason, answerOf, badLengths}
 use Rattle.field.specs.ReasonLaws.{none-applies, refused-later}
 use Rattle.text.specs.Text.{numberAt, fieldAt, isLineAt}
 use Rattle.sheet.specs.declared.SheetAnswer.{SheetAnswer}
-use Rattle.sheet.specs.Sheet.{sheetRows, sheetP, sheetN, sheetL, linesDue, lineAt, badLine, firstReasons, lineReasons, sheetDue, sheetLengths, sheetNumbers, behindReasons, readReasons}
+use Rattle.sheet.specs.Sheet.{sheetRows, sheetP, sheetN, sheetL, linesDue, lineAt, badLine, badFirst, firstReasons, lineReasons, sheetDue, sheetLengths, sheetNumbers, behindReasons, readReasons}
 use Rattle.sheet.specs.Table.{Held, Full, Begins, Room}
 use Rattle.sheet.specs.Deciding.{tableNumbers, Opened, Decides, first-numbers}
 use Rattle.sheet.proofs.LineLaws.{second-start}
@@ -37,14 +37,13 @@ use Rattle.sheet.specs.TableLaws.{elements-same, selectors-list-same, la
 -- THE FIRST LINE
 
 module _ (s : List ℕ) where
-  pub first-long : 65536 < length s → record { number = 1; detail = 0 } ≡ answerOf (firstReasons s)
+  pub first-long : 65536 < length s → record { number = 1; detail = 0 } ≡ answerOf (badFirst s ∷ [])
   first-long h = rw (lt-ltb 65536 (length s) h)
 
-  pub first-bad : length s ≤ 65536 → isLineAt s 0 3 ≡ false → record { number = 1; detail = 0 } ≡ answerOf (firstReasons s)
+  pub first-bad : length s ≤ 65536 → isLineAt s 0 3 ≡ false → record { number = 1; detail = 0 } ≡ answerOf (badFirst s ∷ [])
   first-bad h e = rw (le-ltb 65536 (length s) h, e)
 
-  pub first-read : length s ≤ 65536 → isLineAt s 0 3 ≡ true
-      → answerOf (shapeReasons (sheetP s) (sheetN s) (sheetL s) sheetRows) ≡ answerOf (firstReasons s)
+  pub first-read : length s ≤ 65536 → isLineAt s 0 3 ≡ true → record { number = 0; detail = 0 } ≡ answerOf (badFirst s ∷ [])
   first-read h e = rw (le-ltb 65536 (length s) h, e)
 
 pub three : (s es rest : List ℕ) (m : ℕ) → m ≡ 3 → es ≡ tab (λ j. numberAt s (fieldAt s 0 j)) m → (j : ℕ) → j < 3
@@ -86,10 +85,10 @@ full-of {p} {n} t shape long =
     }
 
 module _ (s : List ℕ) (p n l at : ℕ) (opened : Opened s p n l at) where
-  pub begun : (t : List ℕ) → length t ≡ 6160 → Begins s n l at t
-  begun t long =
+  pub begun : (t : List ℕ) → Shape p n l sheetRows → length t ≡ 6160 → Begins s n l at t
+  begun t shape long =
       record {
-        full = full-of t (opened .shape) long;
+        full = full-of t shape long;
         short = opened .short;
         starts = opened .starts ∙ second-start s n l;
         within = opened .within;
@@ -101,10 +100,10 @@ module _ (s : List ℕ) (p n l at : ℕ) (opened : Opened s p n l at) where
       refused-later (firstReasons s) (behindReasons s (sheetP s) (sheetN s) (sheetL s) lengths) (first-numbers s) a b e h
       (f ∙ rw (opened .p-is, opened .n-is, opened .l-is))
 
-module _ (s : List ℕ) (lengths : List Reason) (a : Answer) (is : a ≡ answerOf (readReasons s lengths)) (t : List ℕ) where
-  pub refused-as : (r : SheetAnswer) → r ≡ record { answer = a; p = 0; n = 0; l = 0 } → (a .number ≡ 0 → ⊥) → Decides s lengths r t
+module _ (s : List ℕ) (reasons : List Reason) (a : Answer) (is : a ≡ answerOf reasons) (t : List ℕ) where
+  pub refused-as : (r : SheetAnswer) → r ≡ record { answer = a; p = 0; n = 0; l = 0 } → (a .number ≡ 0 → ⊥) → Decides s reasons r t
   refused-as r e h =
-      subst (λ (r : SheetAnswer). Decides s lengths r t) (sym e)
+      subst (λ (r : SheetAnswer). Decides s reasons r t) (sym e)
       (record {
         answer = is;
         p-is = rw (ne-eqb (a .number) 0 h);
@@ -114,7 +113,7 @@ module _ (s : List ℕ) (lengths : List Reason) (a : Answer) (is : a ≡ answerO
       })
 
   pub accepted-as : (p n l at : ℕ) → a .number ≡ 0 → Opened s p n l at → Held s n l (linesDue n l) t
-      → Decides s lengths (record { answer = a; p = p; n = n; l = l }) t
+      → Decides s reasons (record { answer = a; p = p; n = n; l = l }) t
   accepted-as p n l at h opened held =
       record {
         answer = is;

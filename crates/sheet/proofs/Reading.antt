@@ -15,7 +15,7 @@ use borrow.Author.Tests.{eq-eqb, ne-eqb}
 use Rattle.field.specs.Reasons.{Reason, answerOf}
 use Rattle.circuit.specs.Buffers.{selectorsLength, labelsLength, witnessLength}
 use Rattle.sheet.specs.declared.SheetAnswer.{SheetAnswer}
-use Rattle.sheet.specs.Sheet.{sheetRows, sheetN, sheetL, onSelectors, onLabels, onWitness, onPublics, onChallenges, sheetLengths}
+use Rattle.sheet.specs.Sheet.{sheetRows, sheetN, sheetL, onSelectors, onLabels, onWitness, onPublics, onChallenges, sheetLengths, sheetReasons}
 use Rattle.sheet.specs.Table.{Full, Room, Laid, selectorsIn, labelsIn, witnessIn, publicsIn, challengesIn}
 use Rattle.sheet.specs.Deciding.{Decides, found, Taken, taken-of}
 use Rattle.sheet.specs.Promises.{Reads}
@@ -24,7 +24,7 @@ use Rattle.sheet.specs.TableLaws.{selectors-same, labels-same, witness-s
 use Rattle.sheet.proofs.Decided.{full-of, roomy}
 
 module _ (s selectors labels witness publics challenges : List ℕ) (r : SheetAnswer) (t : List ℕ)
-    (d : Decides s (sheetLengths s (length selectors) (length labels) (length witness) (length publics) (length challenges) ∷ []) r t) where
+    (d : Decides s (sheetReasons s (length selectors) (length labels) (length witness) (length publics) (length challenges)) r t) where
   module _ (zero : r .answer .number ≡ 0) where
     rows : r .n ≡ sheetN s
     rows = found d zero .1

@@ -25,6 +25,7 @@
 -- sheetLengths         6 of `read`, for the lengths of the five lent buffers
 -- sheetReasons         all reasons of `read`
 -- readAnswer s         the answer of the sheet's own reasons: of reading it into buffers of the lengths due
+-- newReasons s lengths, newAnswer s   the same for a call that takes s as a new sheet (document 02, request 7): 16 straight after 2
 --
 -- Assumes nothing.
 use mathlib.Core.Bool.{Bool, not, cond, _||_}
@@ -35,7 +36,7 @@ use lib.ListN.{length, replicate}
 use Rattle.algebra.specs.Lists.{tab}
 use Rattle.algebra.specs.Modular.{first}
 use Rattle.field.specs.declared.Answer.{Answer}
-use Rattle.field.specs.Reasons.{Reason, answerOf, shapeReasons, badLengths}
+use Rattle.field.specs.Reasons.{Reason, answerOf, shapeReasons, badLengths, currentOnly}
 use Rattle.circuit.specs.Buffers.{selectorsLength, labelsLength, witnessLength}
 use Rattle.circuit.specs.Reasons.{numberReasons}
 use Rattle.text.specs.Text.{numberAt, fieldAt, isLineAt}
@@ -140,3 +141,9 @@ sheetReasons s selectors labels witness publics challenges = readReasons s (shee
 
 abbrev pub readAnswer : List ℕ → Answer
 readAnswer s = answerOf (readReasons s [])
+
+abbrev pub newReasons : (s : List ℕ) (lengths : List Reason) → List Reason
+newReasons s lengths = currentOnly (sheetP s) (readReasons s lengths)
+
+abbrev pub newAnswer : List ℕ → Answer
+newAnswer s = answerOf (newReasons s [])

@@ -3,6 +3,7 @@
 -- bytes        the sheet
 -- without i, with i more   the sheet with byte i left out, and with more bytes before byte i
 -- publicBytes, changed i b, twoPublic   the sheet with row 0 made a public row; that sheet with another byte i; that sheet with l = 2
+-- over97, rows64   the sheet over 97; a first line of 64 rows over 97, with nothing behind it
 -- Worked, worked   what is read off the sheet, and the answers to it and to sheets near it; that they are so
 --
 -- Assumes nothing.
@@ -13,12 +14,12 @@ use lib.Count.{ones}
 use lib.ListN.{take, drop}
 use Rattle.algebra.specs.Lists.{tab}
 use Rattle.algebra.specs.Modular.{first}
-use Rattle.field.specs.Fields.{isField, isRows, greatestRows}
+use Rattle.field.specs.Fields.{isField, isCurrent, isRows, greatestRows}
 use Rattle.field.specs.Reasons.{answerOf, firstOther, firstAbove}
 use Rattle.transform.specs.Parts.{laid}
 use Rattle.circuit.specs.Reasons.{unboundRow}
 use Rattle.text.specs.Text.{isDigit, digitsEnd, valueOf, isNumberAt, numberAt, fieldAt, isFieldAt, isLineAt, decimalOf, fieldsText, fieldsOf}
-use Rattle.sheet.specs.Sheet.{fieldsDue, lineAt, numberOf, sheetP, sheetN, sheetL, badLine, onSelectors, onLabels, onWitness, onPublics, onChallenges, sheetReasons, readAnswer}
+use Rattle.sheet.specs.Sheet.{fieldsDue, lineAt, numberOf, sheetP, sheetN, sheetL, badLine, onSelectors, onLabels, onWitness, onPublics, onChallenges, sheetReasons, readAnswer, newAnswer}
 use Rattle.sheet.specs.Written.{sheetText}
 
 -- 17,2,0 and the five lines behind it, each with byte 10 at its end
@@ -58,6 +59,13 @@ changed i b = take i publicBytes ++ (b ∷ drop (suc i) publicBytes)
 abbrev pub twoPublic : List ℕ
 twoPublic = take 55 (changed 5 50) ++ (54 ∷ 10 ∷ drop 55 publicBytes)
 
+-- 9 in place of the 1 of 17; and 97,64,0
+abbrev pub over97 : List ℕ
+over97 = 57 ∷ drop 1 bytes
+
+abbrev pub rows64 : List ℕ
+rows64 = 57 ∷ 55 ∷ 44 ∷ 54 ∷ 52 ∷ 44 ∷ 48 ∷ 10 ∷ []
+
 pub record Worked : Type 0 where
   pub p-is : sheetP bytes ≡ 17
   pub n-is : sheetN bytes ≡ 2
@@ -95,9 +103,19 @@ pub record Worked : Type 0 where
   pub second-row : readAnswer twoPublic ≡ record { number = 14; detail = 1 }
   -- the witness has room for 767 numbers
   pub short : answerOf (sheetReasons bytes 1280 768 767 256 4) ≡ record { number = 6; detail = 4 }
+  -- over 97 a sheet is read as before
+  pub read-97 : readAnswer over97 ≡ record { number = 0; detail = 0 }
+  pub read-64 : readAnswer rows64 ≡ record { number = 3; detail = 0 }
+  -- as a new sheet: over 17 it is taken; over 97 it is not, whatever stands behind; 1 and 2 come before
+  pub new-17 : newAnswer bytes ≡ record { number = 0; detail = 0 }
+  pub new-97 : newAnswer over97 ≡ record { number = 16; detail = 0 }
+  pub new-64 : newAnswer rows64 ≡ record { number = 16; detail = 0 }
+  pub new-open : newAnswer (take 7 rows64) ≡ record { number = 1; detail = 0 }
+  pub new-no-prime : newAnswer (with 1 (56 ∷ [])) ≡ record { number = 2; detail = 0 }
+  pub new-label : newAnswer (with 39 (49 ∷ [])) ≡ record { number = 8; detail = 5 }
 
 pub worked : Worked
-unfolding tab first isDigit digitsEnd valueOf isNumberAt numberAt fieldAt isFieldAt isLineAt fieldsDue lineAt numberOf badLine isField isRows greatestRows firstOther firstAbove unboundRow laid decimalOf fieldsText fieldsOf ones
+unfolding tab first isDigit digitsEnd valueOf isNumberAt numberAt fieldAt isFieldAt isLineAt fieldsDue lineAt numberOf badLine isField isCurrent isRows greatestRows firstOther firstAbove unboundRow laid decimalOf fieldsText fieldsOf ones
 worked =
     record {
       p-is = refl;
@@ -128,4 +146,12 @@ worked =
       qC-one = refl;
       second-row = refl;
       short = refl;
+      read-97 = refl;
+      read-64 = refl;
+      new-17 = refl;
+      new-97 = refl;
+      new-64 = refl;
+      new-open = refl;
+      new-no-prime = refl;
+      new-label = refl;
     }

@@ -5,23 +5,10 @@
 //
 // A line names the sheets of each group and says whether its last file is what comes out, to the byte.
 ghost use Prim.Native.Nat.{_<_, _≤_};
-ghost use Rattle.io.specs.Counts.{Counts};
+use case_tools::files::count;
+use case_tools::files::load;
+use case_tools::files::print_name;
 use libc::STDOUT_FILENO;
-
-// The file that argument i names, at the start of `out`; how many bytes were read, none where there is no such file.
-fn load(i: usize, out: &mut [u8]) -> usize
-    ensures { λ r. ⌜ Counts r (now (out .exit)) ⌝ }
-{
-    let mut path = io::buffer();
-    let n = os::arg(i, &mut path);
-    let fd = os::open_read(&path[..n]);
-    if fd < 0 {
-        return 0;
-    }
-    let long = io::read_full(fd, out);
-    libc::close(fd);
-    long
-}
 
 // The first k bytes of two texts are the same.
 fn same(a: &[u8], b: &[u8], k: usize) -> bool {
@@ -51,13 +38,6 @@ fn is_word(i: usize, word: &[u8]) -> bool {
     is_text(&argument, n, word)
 }
 
-// Argument i, as it is.
-fn print_argument(i: usize) {
-    let mut name = io::buffer();
-    let n = os::arg(i, &mut name);
-    io::write_all(STDOUT_FILENO, &name[..n]);
-}
-
 // A line's end: whether what came out is right.
 fn say(right: bool) {
     if right {
@@ -75,7 +55,7 @@ fn judge_deposit(i: usize, next: usize) {
     let n = load(i, &mut sheet);
     let m = load(next, &mut due);
     let printed = archive::deposit(&sheet[..n], &mut text);
-    print_argument(i);
+    print_name(i);
     say(is_text(&text, printed.length, &due[..m]));
 }
 
@@ -100,9 +80,9 @@ fn judge_join(i: usize, j: usize, k: usize) {
     let n = load(i, &mut one);
     let m = load(j, &mut two);
     let d = load(k, &mut due);
-    print_argument(i);
+    print_name(i);
     io::write_all(STDOUT_FILENO, b" ");
-    print_argument(j);
+    print_name(j);
     say(joins(&one[..n], &two[..m], &due[..d]));
 }
 
@@ -119,23 +99,15 @@ fn judge(i: usize) -> usize
         judge_join(i + 1, i + 2, i + 3);
         return i + 4;
     }
-    print_argument(i);
+    print_name(i);
     say(false);
     i + 1
 }
 
-// How many arguments there are, or 65,536 where there are more: those behind are not looked at.
-fn argument_count() -> usize
-    ensures { λ r. ⌜ r ≤ 65536 ⌝ }
-{
-    let n = os::arg_count();
-    if n < 65536 { n } else { 65536 }
-}
-
 fn main() {
-    let count = argument_count();
+    let end = count();
     let mut i = 1;
-    while i < count {
+    while i < end {
         i = judge(i);
     }
 }

@@ -1,9 +1,10 @@
 -- What holds exactly where no reason of the prover applies, and where 11 alone does.
 --
--- Honest        p and n are admissible, every buffer but the challenges is lent rightly, and the witness satisfies the circuit
+-- Honest        p and n are admissible, p may be proved with, every buffer but the challenges is lent rightly, and the witness satisfies the circuit
 -- Accepted      the same, the challenges are lent rightly, and no factor of any D(i) is 0
 -- accepted-of   an answer with number 0 means that all of it holds
 -- prove-taken   where all of it holds, no reason applies: buffers that are lent rightly, with a witness that satisfies the circuit and no zero factor, are never turned down
+-- prove-retired    over 97 the answer is 16, whatever else is lent
 -- refused-by-11    where Honest holds and the challenges are lent rightly, but a factor of some D(i) is 0, the answer is 11
 -- buffer-numbers   no reason of the buffers has number 0
 -- buffers-of    where none of them applies, p, n, l, the lengths and the numbers are right
@@ -11,6 +12,7 @@
 -- Assumes nothing.
 use mathlib.Core.Path.{_≡_, refl, sym, ap, _∙_}
 use mathlib.Core.Logic.{_≢_}
+use mathlib.Core.Bool.{true}
 use mathlib.Core.List.{List, [], _∷_, _++_}
 use Prim.Native.Nat.{ℕ, _*_, _≤_, _<_}
 use native.Mathlib.Omega.{arith}
@@ -20,11 +22,11 @@ use Rattle.algebra.specs.Lists.{All}
 use Rattle.algebra.specs.Polynomial.{Elements}
 use Rattle.algebra.specs.Search.{first-le}
 use Rattle.algebra.specs.Tables.{all-append, all-left, all-right}
-use Rattle.field.specs.Fields.{Admissible}
+use Rattle.field.specs.Fields.{isField, isCurrent, Admissible}
 use Rattle.field.specs.declared.Answer.{Answer}
 use Rattle.field.specs.Lent.{Lent}
 use Rattle.field.specs.Reasons.{Reason, answerOf}
-use Rattle.field.specs.ReasonLaws.{none-applies, taken, both-none, both-taken, refused-later}
+use Rattle.field.specs.ReasonLaws.{none-applies, taken, both-none, both-taken, refused-later, current-known, current-answer}
 use Rattle.transform.specs.Transform.{scratchLength}
 use Rattle.circuit.specs.Circuit.{Constraints, lentConstraints, lentPublic, lentWitness, Satisfies}
 use Rattle.circuit.specs.Buffers.{witnessLength, transcriptLength}
@@ -35,6 +37,7 @@ use Rattle.protocol.specs.Conditions.{satisfied, unbroken, zeroFactor-le}
 
 pub record Honest (p n l : ℕ) (selectors labels witness publics transcript scratch : List ℕ) : Type 0 where
   pub admissible : Admissible p n
+  pub current : isCurrent p ≡ true
   pub circuit-right : RightCircuit p n l selectors labels
   pub publics-right : Elements p l publics
   pub witness-right : Elements p (witnessLength n) witness
@@ -82,7 +85,8 @@ module _ (p n l : ℕ) (selectors labels witness publics transcript challenges s
       → Accepted p n l selectors labels witness publics transcript challenges scratch
   accepted-of e =
       let P : ℕ → Type 0 = λ a. a < p in
-      let both = both-none buffers ofWitness buffer-numbers e in
+      let current = current-known p (buffers ++ ofWitness) refl e in
+      let both = both-none buffers ofWitness buffer-numbers (ap (λ (a : Answer). a .number) (sym (current-answer p current (buffers ++ ofWitness))) ∙ e) in
       let known = buffers-of (both .0) in
       let lent = known .0 in
       let later = all-right P selectors _ (known .1 .0) in
@@ -91,6 +95,7 @@ module _ (p n l : ℕ) (selectors labels witness publics transcript challenges s
       record {
         honest = record {
           admissible = lent .admissible;
+          current = current;
           circuit-right =
               circuit-of (lent .publics-few)
               (record { long = cc (lent .lengths); below = all-left P selectors _ (known .1 .0) })
@@ -127,11 +132,18 @@ module _ (p n l : ℕ) (selectors labels witness publics transcript challenges s
     refused-by-11 z =
         let whole = unbroken p n _ _ _ (H .satisfies) in
         let eleven : answerOf ofWitness .number ≡ 11 = rw (at-none (whole .0), at-none (whole .1), lt-ltb _ n z) in
-        ap (λ (a : Answer). a .number) (sym (refused-later buffers ofWitness buffer-numbers _ _ refl (ap (λ (a : Answer). a .number) buffers-taken) refl)) ∙ eleven
+        let later = refused-later buffers ofWitness buffer-numbers _ _ refl (ap (λ (a : Answer). a .number) buffers-taken) refl in
+        ap (λ (a : Answer). a .number) (current-answer p (H .current) (buffers ++ ofWitness) ∙ sym later) ∙ eleven
 
   pub prove-taken : Accepted p n l selectors labels witness publics transcript challenges scratch
       → answerOf (proveReasons p n l selectors labels witness publics transcript challenges scratch) ≡ record { number = 0; detail = 0 }
   prove-taken A =
       let whole = unbroken p n _ _ _ (A .honest .satisfies) in
-      both-taken buffers ofWitness buffer-numbers (buffers-taken (A .honest) (A .challenges-right))
+      current-answer p (A .honest .current) (buffers ++ ofWitness)
+      ∙ both-taken buffers ofWitness buffer-numbers (buffers-taken (A .honest) (A .challenges-right))
       (taken ofWitness (at-none (whole .0), (at-none (whole .1), (at-none (A .no-zero), tt))))
+
+pub prove-retired : (n l : ℕ) (selectors labels witness publics transcript challenges scratch : List ℕ)
+    → answerOf (proveReasons 97 n l selectors labels witness publics transcript challenges scratch) ≡ record { number = 16; detail = 0 }
+unfolding isField isCurrent
+prove-retired n l selectors labels witness publics transcript challenges scratch = refl

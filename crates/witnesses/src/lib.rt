@@ -1,4 +1,5 @@
-// The prover's reasons for turning a call down, in document 01's order: those of the buffers, then those of the witness.
+// The prover's reasons for turning a call down, in document 01's order, with document 02's 16 straight after 2: those of the prime, of the
+// buffers, and of the witness.
 //
 // The call is `decide`. Nothing is written to a lent buffer.
 ghost use mathlib.Core.Path.{_≡_};
@@ -57,6 +58,11 @@ pub fn decide(
 ) -> Answer
     ensures { λ r. ⌜ r ≡ answerOf (proveReasons p n l (now (selectors .entry)) (now (labels .entry)) (now (witness .entry)) (now (publics .entry)) (now (transcript .entry)) (now (challenges .entry)) (now (scratch .entry))) ⌝ }
 {
+    let prime = field::decide_prime(p);
+    let number = prime.number;
+    if number != 0 {
+        return prime;
+    }
     let answer = reasons::of_buffers(
         p,
         n,

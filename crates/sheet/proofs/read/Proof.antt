@@ -7,7 +7,7 @@ use lib.ListN.{length, take, drop, length-append}
 use lib.Seq.{length-take-le, take-at}
 use borrow.Author.Needs.{needs}
 use Rattle.field.specs.Reasons.{badLengths}
-use Rattle.sheet.specs.Sheet.{sheetLengths}
+use Rattle.sheet.specs.Sheet.{readReasons, sheetReasons}
 use Rattle.sheet.specs.Deciding.{Decides}
 use Rattle.sheet.proofs.Reading.{ready, buffers, read-accepted, read-refused}
 use Rattle.sheet.proofs.read.Statement.{statement}
@@ -27,9 +27,9 @@ front : (c : tie.After-decide) → take 6160 (c .decide .last .1 .0 ++ drop 6160
 front c = take-at (c .decide .last .1 .0) (drop 6160 (c .before .before .before .before .before .table-room .result)) 6160 (filled c)
 
 -- the lengths due are those of the definition
-decided : (c : tie.After-decide) → Decides (start c .args .sheet .now) (sheetLengths (start c .args .sheet .now) (length (start c .args .selectors .now)) (length (start c .args .labels .now)) (length (start c .args .witness .now)) (length (start c .args .publics .now)) (length (start c .args .challenges .now)) ∷ []) (c .decide .result) (c .decide .last .1 .0)
+decided : (c : tie.After-decide) → Decides (start c .args .sheet .now) (sheetReasons (start c .args .sheet .now) (length (start c .args .selectors .now)) (length (start c .args .labels .now)) (length (start c .args .witness .now)) (length (start c .args .publics .now)) (length (start c .args .challenges .now))) (c .decide .result) (c .decide .last .1 .0)
 decided c =
-    subst (λ (due : List ℕ). Decides (start c .args .sheet .now) (badLengths (length (start c .args .sheet .now) ∷ length (start c .args .selectors .now) ∷ length (start c .args .labels .now) ∷ length (start c .args .witness .now) ∷ length (start c .args .publics .now) ∷ length (start c .args .challenges .now) ∷ []) due ∷ []) (c .decide .result) (c .decide .last .1 .0))
+    subst (λ (due : List ℕ). Decides (start c .args .sheet .now) (readReasons (start c .args .sheet .now) (badLengths (length (start c .args .sheet .now) ∷ length (start c .args .selectors .now) ∷ length (start c .args .labels .now) ∷ length (start c .args .witness .now) ∷ length (start c .args .publics .now) ∷ length (start c .args .challenges .now) ∷ []) due ∷ [])) (c .decide .result) (c .decide .last .1 .0))
     (c .before .before .before .before .lengths-due .ensures)
     (c .decide .ensures)
 

@@ -5,13 +5,13 @@ use Rattle.vectors.proofs.main.Statement.{statement}
 use Rattle.vectors.proofs.main.Tie as tie
 
 abbrev Inv-loop : tie.InvT-loop
-Inv-loop count i₀ i = count ≤ 65536
+Inv-loop end i₀ i = end ≤ 65536
 
 abbrev μ-loop : tie.MeasureT-loop
-μ-loop count i₀ i = count - i
+μ-loop end i₀ i = end - i
 
-argument-count-requires : tie.Need-argument-count-requires Inv-loop μ-loop
-argument-count-requires c κs = search needs
+count-requires : tie.Need-count-requires Inv-loop μ-loop
+count-requires c κs = search needs
 
 loop-holds : tie.Need-loop-holds Inv-loop μ-loop
 loop-holds c = search needs
@@ -34,7 +34,7 @@ main-spec =
     (tie.spec
     Inv-loop
     μ-loop
-    argument-count-requires
+    count-requires
     loop-holds
     judge-requires
     loop-less

@@ -15,20 +15,20 @@ same-pair : (p n q k p' n' q' k' : ℕ) → p ≡ p' → n ≡ n' → q ≡ q' �
 same-pair p n q k p' n' q' k' e f g h = rw (e, f, g, h)
 
 -- where the call begins, and where the first sheet is decided
-abbrev start : tie.After-decide → tie.Start
+abbrev start : tie.After-decide-new → tie.Start
 start c = c .before .before .before .before .before .before .before .before
 
-abbrev first : tie.After-decide2 → tie.After-decide
+abbrev first : tie.After-decide-new2 → tie.After-decide-new
 first c = c .before .before .before .before .before .before .before .before
 
-slice-aggregate-decide : tie.Need-slice-aggregate-decide
-slice-aggregate-decide c = search needs
+slice-aggregate-decide-new : tie.Need-slice-aggregate-decide-new
+slice-aggregate-decide-new c = search needs
 
-slice-aggregate-decide-2 : tie.Need-slice-aggregate-decide-2
-slice-aggregate-decide-2 c = search needs
+slice-aggregate-decide-new-2 : tie.Need-slice-aggregate-decide-new-2
+slice-aggregate-decide-new-2 c = search needs
 
-decide-requires : tie.Need-decide-requires
-decide-requires c κs = search needs
+decide-new-requires : tie.Need-decide-new-requires
+decide-new-requires c κs = search needs
 
 turned-down-requires : tie.Need-turned-down-requires
 turned-down-requires c κs = search needs
@@ -41,18 +41,18 @@ returns c =
     let d = c .before .before .before .before .before in
     let a = start d .args in
     record {
-      answer = c .turned-down .ensures ∙ first-refused (a .one .now) (a .two .now) (a .room) _ (d .decide .ensures .answer) (c .before .if1 .taken);
+      answer = c .turned-down .ensures ∙ first-refused (a .one .now) (a .two .now) (a .room) _ (d .decide-new .ensures .answer) (c .before .if1 .taken);
       known = λ z. absurd (c .before .if1 .taken (ap (λ (b : Answer). b .number) (sym (c .turned-down .ensures)) ∙ z));
     }
 
-slice-aggregate-decide-3 : tie.Need-slice-aggregate-decide-3
-slice-aggregate-decide-3 c = search needs
+slice-aggregate-decide-new-3 : tie.Need-slice-aggregate-decide-new-3
+slice-aggregate-decide-new-3 c = search needs
 
-slice-aggregate-decide-4 : tie.Need-slice-aggregate-decide-4
-slice-aggregate-decide-4 c = search needs
+slice-aggregate-decide-new-4 : tie.Need-slice-aggregate-decide-new-4
+slice-aggregate-decide-new-4 c = search needs
 
-decide-requires-2 : tie.Need-decide-requires-2
-decide-requires-2 c κs = search needs
+decide-new-requires-2 : tie.Need-decide-new-requires-2
+decide-new-requires-2 c κs = search needs
 
 turned-down-requires-2 : tie.Need-turned-down-requires-2
 turned-down-requires-2 c κs = search needs
@@ -71,7 +71,7 @@ returns-2 c =
     record {
       answer =
           c .turned-down2 .ensures
-          ∙ second-refused (a .one .now) (a .two .now) (a .room) _ (d .decide .ensures .answer) (c .before .before .before .before .before .before .before .before .before .if1 .left) _ (e .decide2 .ensures .answer) (c .before .if2 .taken);
+          ∙ second-refused (a .one .now) (a .two .now) (a .room) _ (d .decide-new .ensures .answer) (c .before .before .before .before .before .before .before .before .before .if1 .left) _ (e .decide-new2 .ensures .answer) (c .before .if2 .taken);
       known = λ z. absurd (c .before .if2 .taken (ap (λ (b : Answer). b .number) (sym (c .turned-down2 .ensures)) ∙ z));
     }
 
@@ -80,7 +80,7 @@ decide-pair-requires c κs =
     let d = first (c .before .before .before .before) in
     let a = start d .args in
     let zero = c .before .before .before .before .before .before .before .before .if1 .left in
-    omega (arith, found (d .decide .ensures) zero .1, rows-few (a .one .now) (a .two .now) (a .room) _ (d .decide .ensures .answer) zero)
+    omega (arith, found (d .decide-new .ensures) zero .1, rows-few (a .one .now) (a .two .now) (a .room) _ (d .decide-new .ensures .answer) zero)
 
 cast-t15 : tie.Need-cast-t15
 cast-t15 c = search needs
@@ -104,19 +104,19 @@ returns-3 c =
     let a = start d .args in
     let zero = c .before .before .before .before .before .before .before .before .before .before .before .before .if1 .left in
     let none = c .before .before .before .before .if2 .left in
-    let one = found (d .decide .ensures) zero in
-    let two = found (e .decide2 .ensures) none in
+    let one = found (d .decide-new .ensures) zero in
+    let two = found (e .decide-new2 .ensures) none in
     record {
       answer =
-          pair-decided (a .one .now) (a .two .now) (a .room) _ (d .decide .ensures .answer) zero _ _ (e .decide2 .ensures .answer) none
+          pair-decided (a .one .now) (a .two .now) (a .room) _ (d .decide-new .ensures .answer) zero _ _ (e .decide-new2 .ensures .answer) none
           (c .before .before .before .decide-pair .ensures ∙ same-pair _ _ _ _ _ _ _ _ (one .0) (one .1) (two .0) (two .1));
       known = λ u. record {
         p-is = one .0;
         n-is = one .1;
         l-is = one .2;
         m-is = two .2;
-        one-held = d .decide .ensures .held zero;
-        two-held = e .decide2 .ensures .held none;
+        one-held = d .decide-new .ensures .held zero;
+        two-held = e .decide-new2 .ensures .held none;
       };
     }
 
@@ -124,15 +124,15 @@ pub decide-spec : {M : Type 1} → statement M
 decide-spec =
     tie.close
     (tie.spec
-    slice-aggregate-decide
-    slice-aggregate-decide-2
-    decide-requires
+    slice-aggregate-decide-new
+    slice-aggregate-decide-new-2
+    decide-new-requires
     turned-down-requires
     same-length
     returns
-    slice-aggregate-decide-3
-    slice-aggregate-decide-4
-    decide-requires-2
+    slice-aggregate-decide-new-3
+    slice-aggregate-decide-new-4
+    decide-new-requires-2
     turned-down-requires-2
     same-length-2
     same-length-3

@@ -1,105 +1,42 @@
--- `sheet::first::decide_first` meets its contract: the first line is read into three words, and they are tested. Assumes nothing.
-use mathlib.Core.Path.{_≡_, sym, ap, _∙_}
+-- `sheet::first::decide_first` meets its contract: the reason 1, then those of p, n and l. Assumes nothing.
+use mathlib.Core.Path.{_≡_, _∙_}
+use mathlib.Core.List.{List, [], _∷_}
 use native.Mathlib.Omega.{arith}
-use lib.ListN.{length, take, drop}
-use lib.Seq.{length-take-le}
 use borrow.Author.Needs.{needs}
-use borrow.Author.Tests.{not-true, not-false}
 use Rattle.field.specs.Lent.{shaped}
-use Rattle.text.specs.Text.{isLineAt}
-use Rattle.sheet.specs.Sheet.{sheetRows}
-use Rattle.sheet.proofs.Decided.{first-long, first-bad, first-read, three}
+use Rattle.field.specs.Reasons.{Reason, shapeReasons}
+use Rattle.field.specs.ReasonLaws.{refused-first, refused-later}
+use Rattle.sheet.specs.Sheet.{sheetRows, sheetP, sheetN, sheetL, badFirst}
 use Rattle.sheet.proofs.first.decide_first.Statement.{statement}
 use Rattle.sheet.proofs.first.decide_first.Tie as tie
 
-long : (c : tie.After-blank-3) → length (take 3 (c .blank-3 .result)) ≡ 3
-long c = length-take-le 3 (c .blank-3 .result) (omega (arith, c .blank-3 .ensures))
+-- the two parts
+abbrev first : tie.Start → List Reason
+first s = badFirst (s .args .s .now) ∷ []
 
-unread-requires : tie.Need-unread-requires
-unread-requires c κs = search needs
+abbrev second : tie.Start → List Reason
+second s = shapeReasons (sheetP (s .args .s .now)) (sheetN (s .args .s .now)) (sheetL (s .args .s .now)) sheetRows
+
+read-first-requires : tie.Need-read-first-requires
+read-first-requires c κs = search needs
 
 returns : tie.Need-returns
 returns c =
-    let e = c .unread .ensures in
-    let a = e ∙ first-long (c .before .before .before .args .s .now) (c .before .if1 .taken) in
-    (a, λ u. absurd (omega (arith, ap (λ r. r .number) e)))
-
-blank-3-requires : tie.Need-blank-3-requires
-blank-3-requires c κs = search needs
-
-array-borrow-prefix-words : tie.Need-array-borrow-prefix-words
-array-borrow-prefix-words c = search needs
-
-slice-aggregate-line : tie.Need-slice-aggregate-line
-slice-aggregate-line c = sym (long (c .before))
-
-line-requires : tie.Need-line-requires
-line-requires c κs = (omega arith, c .before .before .if1 .left, omega (arith, long (c .before)), omega (arith, long (c .before)))
-
--- whether the line is in form
-form : (c : tie.After-line) → c .line .result .ok ≡ isLineAt (c .before .before .before .before .before .args .s .now) 0 3
-form c = c .line .ensures .0 ∙ ap (isLineAt (c .before .before .before .before .before .args .s .now) 0) (long (c .before .before))
-
-unread-requires-2 : tie.Need-unread-requires-2
-unread-requires-2 c κs = search needs
-
-returns-2 : tie.Need-returns-2
-returns-2 c =
-    let e = c .unread2 .ensures in
-    let l = c .before .before .before .before in
-    let a = e ∙ first-bad (l .before .before .before .before .before .args .s .now) (l .before .before .before .if1 .left) (sym (form l) ∙ not-true _ (c .before .if2 .taken)) in
-    (a, λ u. absurd (omega (arith, ap (λ r. r .number) e)))
-
-array-read-p : tie.Need-array-read-p
-array-read-p c = search needs
-
-array-read-n : tie.Need-array-read-n
-array-read-n c = search needs
-
-array-read-l : tie.Need-array-read-l
-array-read-l c = search needs
+    let s = c .before .before .before .before in
+    (refused-first (first s) (second s) (omega arith, tt) _ (c .before .before .read-first .ensures .0) (c .if1 .taken), λ u. absurd (c .if1 .taken u))
 
 decide-shape-requires : tie.Need-decide-shape-requires
 decide-shape-requires c κs = search needs
 
-returns-3 : tie.Need-returns-3
-returns-3 c =
-    let l = c .before .before .before .before in
-    let s = l .before .before .before .before .before .args .s .now in
-    let short = l .before .before .before .if1 .left in
-    let good = not-false _ (c .before .if2 .left) in
-    let got = l .line .ensures .1 good in
-    let word = three s (l .line .last .1 .1 .0) (drop 3 (l .before .before .blank-3 .result)) _ (long (l .before .before)) (got .2) in
-    let p = word 0 (omega arith) in
-    let n = word 1 (omega arith) in
-    let m = word 2 (omega arith) in (
-      c .decide-shape .ensures ∙ rw (p, n, m) (first-read s short (sym (form l) ∙ good)),
-      λ u.
-          record {
-            short = short;
-            p-is = p;
-            n-is = n;
-            l-is = m;
-            shape = shaped _ _ _ sheetRows _ (c .decide-shape .ensures) u;
-            starts = rw (← long (l .before .before)) (got .0);
-            within = got .1;
-          },
+returns-2 : tie.Need-returns-2
+returns-2 c =
+    let r = c .before .before .before .read-first in
+    let s = c .before .before .before .before .before in
+    let zero = c .before .if1 .left in
+    let opened = r .ensures .1 zero in (
+      refused-later (first s) (second s) (omega arith, tt) _ _ (r .ensures .0) zero (c .decide-shape .ensures ∙ rw (opened .p-is, opened .n-is, opened .l-is)),
+      λ u. (opened, shaped _ _ _ sheetRows _ (c .decide-shape .ensures) u),
     )
 
 pub decide-first-spec : {M : Type 1} → statement M
-decide-first-spec =
-    tie.close
-    (tie.spec
-    unread-requires
-    returns
-    blank-3-requires
-    array-borrow-prefix-words
-    slice-aggregate-line
-    line-requires
-    unread-requires-2
-    returns-2
-    array-read-p
-    array-read-n
-    array-read-l
-    decide-shape-requires
-    returns-3)
+decide-first-spec = tie.close (tie.spec read-first-requires returns decide-shape-requires returns-2)

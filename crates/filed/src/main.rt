@@ -1,0 +1,110 @@
+// Deposits as they were filed: a sheet, and the text that was printed for it. They are read, prepared, checked and opened, and nothing is proved
+// anew, so that a deposit over a retired prime keeps its verdicts. The arguments are names of files, two for each deposit:
+//
+//     SHEET TEXT
+//
+// Its lines are: the sheet's name, the answer of `read`, p, n and l, the point verdict and whether it is the one that was filed, at how many zetas
+// the transcript is accepted, `of`, how many were tried, and the row verdict; the same count where the first coefficient of t is changed; `open`
+// and `check_opening` for every polynomial; and what `prove`, `deposit` and `join` answer where the sheet is taken as a new one.
+ghost use Prim.Native.Nat.{_≤_};
+ghost use lib.ListN.{length};
+ghost use Rattle.io.specs.Counts.{Counts};
+use case_tools::buffers;
+use case_tools::files;
+use case_tools::lines;
+use case_tools::print;
+
+mod checks;
+
+// The coefficients on a line of a text, which stand behind a letter and a comma, at the start of `out`; how many there are.
+fn polynomial(text: &[u8], line: usize, out: &mut [u32]) -> usize
+    requires { ⌜ length (now text) ≤ 65536 ⌝ }
+    ensures { λ r. ⌜ Counts r (now (out .exit)) ⌝ }
+{
+    let at = lines::start(text, line);
+    if text.len() - at < 2 {
+        return 0;
+    }
+    lines::numbers(text, at + 2, out)
+}
+
+// The transcript of a text: a, b, c, z and t end to end, at the start of `out`; how many numbers it has.
+fn transcript(text: &[u8], out: &mut [u32]) -> usize
+    requires { ⌜ length (now text) ≤ 65536 ⌝ }
+    ensures { λ r. ⌜ Counts r (now (out .exit)) ⌝ }
+{
+    let mut k = 0;
+    for line in 0..5 {
+        k += polynomial(text, line, &mut out[k..]);
+    }
+    k
+}
+
+// The lines of a deposit, behind the sheet's name.
+fn judge(sheet: &[u8], text: &[u8])
+    requires { ⌜ length (now text) ≤ 65536 ⌝ }
+{
+    let mut selectors = [0u32; 1280];
+    let mut labels = [0u32; 768];
+    let mut witness = [0u32; 768];
+    let mut publics = [0u32; 256];
+    let mut challenges = [0u32; 4];
+    let mut filed = buffers::short();
+    let found = sheet::read(
+        sheet,
+        &mut selectors,
+        &mut labels,
+        &mut witness,
+        &mut publics,
+        &mut challenges,
+    );
+    let n = found.n as usize;
+    let a = buffers::within(&selectors, 5 * n);
+    let b = buffers::within(&labels, 3 * n);
+    let c = buffers::within(&witness, 3 * n);
+    let d = buffers::within(&publics, found.l as usize);
+    let e = transcript(text, &mut filed);
+    print::answer(found.answer);
+    checks::lines(
+        found.p,
+        found.n,
+        found.l,
+        &selectors[..a],
+        &labels[..b],
+        &witness[..c],
+        &publics[..d],
+        &filed[..e],
+        &challenges,
+        text,
+    );
+    checks::print_new(
+        sheet,
+        found.p,
+        found.n,
+        found.l,
+        &selectors[..a],
+        &labels[..b],
+        &witness[..c],
+        &publics[..d],
+        &challenges,
+    );
+}
+
+// The deposit whose sheet argument i names, and whose text the next one does.
+fn judge_filed(i: usize, next: usize) {
+    let mut sheet = sheet::sheet_room();
+    let mut text = archive::text_room();
+    let n = files::load(i, &mut sheet);
+    let m = files::load(next, &mut text);
+    files::print_name(i);
+    judge(&sheet[..n], &text[..m]);
+}
+
+fn main() {
+    let end = files::count();
+    let mut i = 1;
+    while i < end {
+        judge_filed(i, i + 1);
+        i += 2;
+    }
+}
