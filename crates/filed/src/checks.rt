@@ -3,6 +3,7 @@ use case_tools::buffers;
 use case_tools::lines;
 use case_tools::print;
 use opening_cases::sizes;
+use prover_cases::calls;
 use prover_circuits::circuits;
 use prover_circuits::generate;
 use prover_circuits::verdicts;
@@ -19,9 +20,7 @@ fn print_point(
     text: &[u8],
 ) {
     let zeta = generate::at(challenges, 3);
-    let accepts = verdicts::accepts(
-        p, n, l, publics, prepared, transcript, challenges, zeta,
-    );
+    let accepts = verdicts::accepts(p, n, l, publics, prepared, transcript, challenges, zeta);
     print::either(accepts, b"accept", b"reject");
     print::either(
         accepts == lines::says(text, 5, b"accept\n"),
@@ -30,8 +29,8 @@ fn print_point(
     );
 }
 
-// All but those on new sheets.
-pub fn lines(
+// The line of a deposit as it was filed, behind the answer of `read`.
+fn print_filed(
     p: u32,
     n: u32,
     l: u32,
@@ -39,25 +38,15 @@ pub fn lines(
     labels: &[u32],
     witness: &[u32],
     publics: &[u32],
+    prepared: &[u32],
     transcript: &[u32],
     challenges: &[u32],
     text: &[u8],
 ) {
-    let prepared = verdicts::prepared_of(p, n, l, selectors, labels);
-    let a = buffers::within(&prepared, 8 * (n as usize));
     print::number(p);
     print::number(n);
     print::number(l);
-    print_point(
-        p,
-        n,
-        l,
-        publics,
-        &prepared[..a],
-        transcript,
-        challenges,
-        text,
-    );
+    print_point(p, n, l, publics, prepared, transcript, challenges, text);
     verdicts::print_points(p, n, l, selectors, labels, publics, transcript, challenges);
     verdicts::print_rows(
         p,
@@ -71,9 +60,80 @@ pub fn lines(
         challenges,
     );
     print::end();
+}
+
+// The row verdict where the content of the last position is raised.
+fn change_content(
+    p: u32,
+    n: u32,
+    l: u32,
+    selectors: &[u32],
+    labels: &[u32],
+    witness: &[u32],
+    publics: &[u32],
+    transcript: &[u32],
+    challenges: &[u32],
+) {
+    let changed = generate::raised(p, generate::last_position(n), witness);
+    let a = buffers::within(&changed, witness.len());
+    calls::heading(b"last content changed", p, n, l);
+    verdicts::print_rows(
+        p,
+        n,
+        l,
+        selectors,
+        labels,
+        &changed[..a],
+        publics,
+        transcript,
+        challenges,
+    );
+    print::end();
+}
+
+// All lines but that on new sheets.
+pub fn lines(
+    p: u32,
+    n: u32,
+    l: u32,
+    selectors: &[u32],
+    labels: &[u32],
+    witness: &[u32],
+    publics: &[u32],
+    transcript: &[u32],
+    challenges: &[u32],
+    text: &[u8],
+) {
+    let laid = verdicts::prepared_of(p, n, l, selectors, labels);
+    let a = buffers::within(&laid, 8 * (n as usize));
+    let prepared = &laid[..a];
+    print_filed(
+        p,
+        n,
+        l,
+        selectors,
+        labels,
+        witness,
+        publics,
+        prepared,
+        transcript,
+        challenges,
+        text,
+    );
     circuits::change_t(p, n, l, selectors, labels, publics, transcript, challenges);
+    change_content(
+        p,
+        n,
+        l,
+        selectors,
+        labels,
+        witness,
+        publics,
+        transcript,
+        challenges,
+    );
     if 2 <= n {
-        sizes::every_polynomial(p, n, &prepared[..a], transcript);
+        sizes::every_polynomial(p, n, prepared, transcript);
     }
 }
 
@@ -139,9 +199,7 @@ pub fn print_new(
     challenges: &[u32],
 ) {
     print::text(b"as a new sheet,prove");
-    print_proved(
-        p, n, l, selectors, labels, witness, publics, challenges,
-    );
+    print_proved(p, n, l, selectors, labels, witness, publics, challenges);
     print::word(b"deposit");
     print_deposited(sheet);
     print::word(b"join");

@@ -4,8 +4,9 @@
 //     SHEET TEXT
 //
 // Its lines are: the sheet's name, the answer of `read`, p, n and l, the point verdict and whether it is the one that was filed, at how many zetas
-// the transcript is accepted, `of`, how many were tried, and the row verdict; the same count where the first coefficient of t is changed; `open`
-// and `check_opening` for every polynomial; and what `prove`, `deposit` and `join` answer where the sheet is taken as a new one.
+// the transcript is accepted, `of`, how many were tried, and the row verdict; the same count where the first coefficient of t is changed, and the row
+// verdict where the last content is; `open` and `check_opening` for every polynomial; and what `prove`, `deposit` and `join` answer where the sheet is
+// taken as a new one.
 ghost use Prim.Native.Nat.{_≤_};
 ghost use lib.ListN.{length};
 ghost use Rattle.io.specs.Counts.{Counts};
@@ -40,16 +41,13 @@ fn transcript(text: &[u8], out: &mut [u32]) -> usize
     k
 }
 
-// The lines of a deposit, behind the sheet's name.
-fn judge(sheet: &[u8], text: &[u8])
-    requires { ⌜ length (now text) ≤ 65536 ⌝ }
-{
+// The lines of a deposit, behind the sheet's name. Its text has this transcript.
+fn judge(sheet: &[u8], text: &[u8], filed: &[u32]) {
     let mut selectors = [0u32; 1280];
     let mut labels = [0u32; 768];
     let mut witness = [0u32; 768];
     let mut publics = [0u32; 256];
     let mut challenges = [0u32; 4];
-    let mut filed = buffers::short();
     let found = sheet::read(
         sheet,
         &mut selectors,
@@ -63,7 +61,6 @@ fn judge(sheet: &[u8], text: &[u8])
     let b = buffers::within(&labels, 3 * n);
     let c = buffers::within(&witness, 3 * n);
     let d = buffers::within(&publics, found.l as usize);
-    let e = transcript(text, &mut filed);
     print::answer(found.answer);
     checks::lines(
         found.p,
@@ -73,7 +70,7 @@ fn judge(sheet: &[u8], text: &[u8])
         &labels[..b],
         &witness[..c],
         &publics[..d],
-        &filed[..e],
+        filed,
         &challenges,
         text,
     );
@@ -94,10 +91,12 @@ fn judge(sheet: &[u8], text: &[u8])
 fn judge_filed(i: usize, next: usize) {
     let mut sheet = sheet::sheet_room();
     let mut text = archive::text_room();
+    let mut filed = buffers::short();
     let n = files::load(i, &mut sheet);
     let m = files::load(next, &mut text);
+    let k = transcript(&text[..m], &mut filed);
     files::print_name(i);
-    judge(&sheet[..n], &text[..m]);
+    judge(&sheet[..n], &text[..m], &filed[..k]);
 }
 
 fn main() {

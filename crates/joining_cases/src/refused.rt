@@ -56,7 +56,11 @@ fn retired() {
     either_place(b"98", b"98,2,0\n");
     line(b"97 twice", &OVER_97, &OVER_97);
     line(b"16 of the first before 1 of the second", &OVER_97, b"");
-    line(b"14 of the first before 16 of the second", &UNBOUND, &OVER_97);
+    line(
+        b"14 of the first before 16 of the second",
+        &UNBOUND,
+        &OVER_97,
+    );
     line(b"16 of the second before 15 and 3", &FOUR, &OVER_97);
     lent(b"16 of the first before 6", &OVER_97, &WORKED, 65535);
     lent(b"6 before 16 of the second", &WORKED, &OVER_97, 65535);
