@@ -1,11 +1,15 @@
 // Why two sheets are not joined, if they are not. Only the tables are written, which are the caller's own.
 ghost use mathlib.Core.Path.{_≡_};
+ghost use mathlib.Core.List.{_∷_, []};
 ghost use Prim.Native.Nat.{_≤_};
 ghost use lib.ListN.{length};
-ghost use Rattle.field.specs.Reasons.{answerOf};
+ghost use Rattle.field.specs.Reasons.{answerOf, badLengths};
+ghost use Rattle.sheet.specs.Sheet.{newReasons};
+ghost use Rattle.sheet.specs.Deciding.{Decides as Reading·Decides};
 ghost use Rattle.joining.specs.Joining.{pairReasons};
 ghost use Rattle.joining.specs.Deciding.{Decides};
 use field::Answer;
+use sheet::SheetAnswer;
 
 // The answer of all reasons; p and n, which both sheets have, and their numbers of public inputs where none applies.
 pub struct Pair {
@@ -49,6 +53,25 @@ fn decide_pair(p: u32, n: u32, q: u32, k: u32) -> Answer
     field::accepted()
 }
 
+// The reasons of a sheet as a new one, `long` being the lengths of the call's buffers, and `due` those due: that of a retired prime comes straight after 2. The table
+// is filled where none applies.
+fn decide_new(s: &[u8], table: &mut [u32], long: &[usize], due: &[usize]) -> SheetAnswer
+    requires { ⌜ (length (now table) ≡ 6160) × (length (now long) ≡ length (now due)) × (length (now due) ≤ 16) ⌝ }
+    ensures { λ r. ⌜ Reading·Decides (now (s .entry)) (newReasons (now (s .entry)) (badLengths (now (long .entry)) (now (due .entry)) ∷ [])) r (now (table .exit)) ⌝ }
+{
+    let prime = sheet::decide_prime(s);
+    let number = prime.number;
+    if number != 0 {
+        return SheetAnswer {
+            answer: prime,
+            p: 0,
+            n: 0,
+            l: 0,
+        };
+    }
+    sheet::decide(s, table, long, due)
+}
+
 // The reasons of the first sheet as a new one, with that of the written buffer among them, those of the second, and those of the pair. `room` is
 // the length of the written buffer. The tables are filled where none applies.
 pub fn decide(one: &[u8], two: &[u8], room: usize, first: &mut [u32], second: &mut [u32]) -> Pair
@@ -57,13 +80,13 @@ pub fn decide(one: &[u8], two: &[u8], room: usize, first: &mut [u32], second: &m
 {
     let long = [one.len(), two.len(), room];
     let due = [one.len(), two.len(), 65536];
-    let a = sheet::decide_new(one, first, &long, &due);
+    let a = decide_new(one, first, &long, &due);
     let answer = a.answer;
     let number = answer.number;
     if number != 0 {
         return turned_down(answer);
     }
-    let b = sheet::decide_new(two, second, &long, &due);
+    let b = decide_new(two, second, &long, &due);
     let answer = b.answer;
     let number = answer.number;
     if number != 0 {

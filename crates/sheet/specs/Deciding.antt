@@ -11,7 +11,7 @@
 -- taken-of               an answer with number 0 means that it holds, and that no reason of the lengths applies
 -- own-answer             where no reason of the lengths applies, the answer is that of the sheet's own reasons
 -- NEW SHEETS
--- prime-numbers, new-numbers   no reason has number 0, where none of the lengths has
+-- new-numbers            no reason of a new sheet has number 0, where none of the lengths has
 -- new-current            where no reason of a new sheet's first line applies up to that of its prime, the prime may be proved with
 -- new-refused            where one applies, it is the answer
 -- new-same               where the prime may be proved with, the answer is that of reading
@@ -125,7 +125,7 @@ abbrev behindPrime : (s : List ℕ) (lengths : List Reason) → List Reason
 behindPrime s lengths =
     badRows (sheetP s) (sheetN s) sheetRows ∷ badPublics (sheetN s) (sheetL s) ∷ behindReasons s (sheetP s) (sheetN s) (sheetL s) lengths
 
-pub prime-numbers : (s : List ℕ) → All (λ r. r .number ≢ 0) (primeLine s)
+prime-numbers : (s : List ℕ) → All (λ r. r .number ≢ 0) (primeLine s)
 prime-numbers s = (omega arith, (omega arith, (omega arith, tt)))
 
 pub new-numbers : (s : List ℕ) (lengths : List Reason) → All (λ r. r .number ≢ 0) lengths → All (λ r. r .number ≢ 0) (newReasons s lengths)

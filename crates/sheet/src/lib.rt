@@ -1,7 +1,7 @@
 // Reading a sheet (document 01, "The sheet"): why it is turned down, or p, n, l and its numbers laid out as they are lent.
 //
-// The public call is `read`. The layers above that take a new sheet begin with `decide_prime` or `decide_new`, which turn a retired prime down. Lines count from 0 in
-// the code, as in the definitions.
+// The public call is `read`. The layers above that read a sheet for a call of their own begin with `decide`, and with `decide_prime` before it where they take new
+// sheets only. Lines count from 0 in the code, as in the definitions.
 ghost use mathlib.Core.Path.{_≡_};
 ghost use lib.ListN.{length};
 ghost use Rattle.sheet.specs.Promises.{Reads};
@@ -14,7 +14,7 @@ mod numbers;
 mod reasons;
 
 pub use first::decide_prime;
-pub use reasons::decide_new;
+pub use reasons::decide;
 
 // The answer of `read`: p, n and l are 0 if refused.
 pub struct SheetAnswer {

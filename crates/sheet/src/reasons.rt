@@ -4,7 +4,7 @@ ghost use mathlib.Core.List.{_∷_, []};
 ghost use Prim.Native.Nat.{_≤_};
 ghost use lib.ListN.{length};
 ghost use Rattle.field.specs.Reasons.{answerOf, badLengths};
-ghost use Rattle.sheet.specs.Sheet.{linesDue, sheetDue, behindReasons, readReasons, newReasons};
+ghost use Rattle.sheet.specs.Sheet.{linesDue, sheetDue, behindReasons, readReasons};
 ghost use Rattle.sheet.specs.Table.{Held, Begins};
 ghost use Rattle.sheet.specs.Deciding.{Decides};
 use super::SheetAnswer;
@@ -89,17 +89,4 @@ pub fn decide(s: &[u8], table: &mut [u32], long: &[usize], due: &[usize]) -> She
         n: first.n,
         l: first.l,
     }
-}
-
-// The same for a call that takes the sheet as a new one: 16, for a retired prime, straight after 2.
-pub fn decide_new(s: &[u8], table: &mut [u32], long: &[usize], due: &[usize]) -> SheetAnswer
-    requires { ⌜ (length (now table) ≡ 6160) × (length (now long) ≡ length (now due)) × (length (now due) ≤ 16) ⌝ }
-    ensures { λ r. ⌜ Decides (now (s .entry)) (newReasons (now (s .entry)) (badLengths (now (long .entry)) (now (due .entry)) ∷ [])) r (now (table .exit)) ⌝ }
-{
-    let prime = super::first::decide_prime(s);
-    let number = prime.number;
-    if number != 0 {
-        return turned_down(prime);
-    }
-    decide(s, table, long, due)
 }

@@ -1,13 +1,12 @@
--- `sheet::reasons::decide_new` meets its contract: the reasons of the first line up to that of the prime, then those of reading. Assumes nothing.
+-- `joining::reasons::decide_new` meets its contract: the reasons of the first line up to that of the prime, then those of reading. Assumes nothing.
 use mathlib.Core.Path.{sym, _∙_}
 use mathlib.Core.List.{List, [], _∷_}
 use borrow.Author.Needs.{needs}
+use borrow.Author.Tests.{ne-eqb}
 use Rattle.field.specs.Reasons.{Reason, badLengths}
-use Rattle.sheet.specs.Sheet.{newReasons}
 use Rattle.sheet.specs.Deciding.{new-refused, new-current, new-same}
-use Rattle.sheet.proofs.Decided.{refused-as}
-use Rattle.sheet.proofs.reasons.decide_new.Statement.{statement}
-use Rattle.sheet.proofs.reasons.decide_new.Tie as tie
+use Rattle.joining.proofs.reasons.decide_new.Statement.{statement}
+use Rattle.joining.proofs.reasons.decide_new.Tie as tie
 
 -- the reasons of the lengths
 abbrev lengths : tie.Start → List Reason
@@ -16,15 +15,17 @@ lengths s = badLengths (s .args .long .now) (s .args .due .now) ∷ []
 decide-prime-requires : tie.Need-decide-prime-requires
 decide-prime-requires c κs = search needs
 
-turned-down-requires : tie.Need-turned-down-requires
-turned-down-requires c κs = search needs
-
 returns : tie.Need-returns
 returns c =
-    let a = c .before .before .before .before .before .before .before in
-    let s = a .args .s .now in
-    let is = new-refused s (lengths a) _ (c .before .before .decide-prime .ensures) (c .before .if1 .taken) in
-    refused-as s (newReasons s (lengths a)) _ is _ _ (c .turned-down .ensures) (c .before .if1 .taken)
+    let a = c .before .before .before .before .before .before in
+    let no = ne-eqb _ 0 (c .if1 .taken) in
+    record {
+      answer = new-refused (a .args .s .now) (lengths a) _ (c .before .decide-prime .ensures) (c .if1 .taken);
+      p-is = rw no;
+      n-is = rw no;
+      l-is = rw no;
+      held = λ u. absurd (c .if1 .taken u);
+    }
 
 decide-requires : tie.Need-decide-requires
 decide-requires c κs = search needs
@@ -47,4 +48,4 @@ returns-2 c =
     }
 
 pub decide-new-spec : {M : Type 1} → statement M
-decide-new-spec = tie.close (tie.spec decide-prime-requires turned-down-requires returns decide-requires same-length returns-2)
+decide-new-spec = tie.close (tie.spec decide-prime-requires returns decide-requires same-length returns-2)
