@@ -2,13 +2,14 @@
 use case_tools::buffers;
 use case_tools::lines;
 use case_tools::print;
+use opening_cases::calls;
 use opening_cases::sizes;
-use prover_cases::calls;
+use prover_cases::calls::heading;
 use prover_circuits::circuits;
 use prover_circuits::generate;
 use prover_circuits::verdicts;
 
-// The point verdict at the sheet's own zeta, and whether the text ends with it.
+// The point verdict at the sheet's own zeta, and whether it is the one that was filed, on the text's last line.
 fn print_point(
     p: u32,
     n: u32,
@@ -20,13 +21,9 @@ fn print_point(
     text: &[u8],
 ) {
     let zeta = generate::at(challenges, 3);
-    let accepts = verdicts::accepts(p, n, l, publics, prepared, transcript, challenges, zeta);
-    print::either(accepts, b"accept", b"reject");
-    print::either(
-        accepts == lines::says(text, 5, b"accept\n"),
-        b"as filed",
-        b"NOT AS FILED",
-    );
+    let v = verdicts::verdict_at(p, n, l, publics, prepared, transcript, challenges, zeta);
+    calls::print_verdict(v);
+    print::either(calls::is_due(text, 5, v), b"as filed", b"NOT AS FILED");
 }
 
 // The line of a deposit as it was filed, behind the answer of `read`.
@@ -76,7 +73,7 @@ fn change_content(
 ) {
     let changed = generate::raised(p, generate::last_position(n), witness);
     let a = buffers::within(&changed, witness.len());
-    calls::heading(b"last content changed", p, n, l);
+    heading(b"last content changed", p, n, l);
     verdicts::print_rows(
         p,
         n,

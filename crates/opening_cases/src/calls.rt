@@ -1,6 +1,7 @@
 // The two calls on marked buffers, a line for each: the label, the call, p and n, the answer's number and detail, then what `open` wrote or the
 // verdict, and what became of the scratch.
 use case_tools::buffers;
+use case_tools::lines;
 use case_tools::print;
 use pointcheck::Judged;
 
@@ -32,11 +33,20 @@ fn print_scratch(scratch: &[u32]) {
 }
 
 // A verdict as a word.
-fn print_verdict(v: Judged) {
+pub fn print_verdict(v: Judged) {
     match v {
         Judged::None => print::word(b"none"),
         Judged::Accept => print::word(b"accept"),
         Judged::Reject => print::word(b"reject"),
+    }
+}
+
+// Whether a line of a text has this verdict.
+pub fn is_due(text: &[u8], line: usize, v: Judged) -> bool {
+    match v {
+        Judged::None => false,
+        Judged::Accept => lines::says(text, line, b"accept\n"),
+        Judged::Reject => lines::says(text, line, b"reject\n"),
     }
 }
 

@@ -1,5 +1,5 @@
 // Cases of `open` and `check_opening`: the worked sheet and its edges, every size, and how many mixing numbers let wrong evaluations pass.
-mod calls;
+pub mod calls;
 mod counts;
 mod edges;
 mod sheet;

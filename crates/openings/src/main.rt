@@ -12,6 +12,7 @@ use case_tools::lines;
 use case_tools::print;
 use libc::STDIN_FILENO;
 use libc::STDOUT_FILENO;
+use opening_cases::calls;
 use pointcheck::Judged;
 
 // The check's verdict.
@@ -110,24 +111,6 @@ fn print_opened<'a>(
     );
 }
 
-// A verdict as a word.
-fn print_verdict(v: Judged) {
-    match v {
-        Judged::None => print::word(b"none"),
-        Judged::Accept => print::word(b"accept"),
-        Judged::Reject => print::word(b"reject"),
-    }
-}
-
-// Whether line 7 of a block has this verdict.
-fn is_due(s: &[u8], v: Judged) -> bool {
-    match v {
-        Judged::None => false,
-        Judged::Accept => lines::says(s, 7, b"accept\n"),
-        Judged::Reject => lines::says(s, 7, b"reject\n"),
-    }
-}
-
 // A block's line from p on.
 fn results<'a>(
     s: &[u8],
@@ -152,8 +135,8 @@ fn results<'a>(
         opening,
         challenges,
     );
-    print_verdict(v);
-    print::either(is_due(s, v), b"as it must be", b"DIFFERS");
+    calls::print_verdict(v);
+    print::either(calls::is_due(s, 7, v), b"as it must be", b"DIFFERS");
     print_opened(
         p,
         n,

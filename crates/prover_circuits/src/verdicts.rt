@@ -49,8 +49,8 @@ fn is_accept(v: Judged) -> bool {
     }
 }
 
-// Whether the point check accepts at a zeta.
-pub fn accepts(
+// The point check's verdict at a zeta.
+pub fn verdict_at(
     p: u32,
     n: u32,
     l: u32,
@@ -59,7 +59,7 @@ pub fn accepts(
     transcript: &[u32],
     challenges: &[u32],
     zeta: u32,
-) -> bool {
+) -> Judged {
     let mut scratch = buffers::long();
     let lent = [
         at(challenges, 0),
@@ -78,7 +78,21 @@ pub fn accepts(
         &lent,
         &mut scratch[..a],
     );
-    let v = r.verdict;
+    r.verdict
+}
+
+// Whether it is accept.
+fn accepts(
+    p: u32,
+    n: u32,
+    l: u32,
+    publics: &[u32],
+    prepared: &[u32],
+    transcript: &[u32],
+    challenges: &[u32],
+    zeta: u32,
+) -> bool {
+    let v = verdict_at(p, n, l, publics, prepared, transcript, challenges, zeta);
     is_accept(v)
 }
 
