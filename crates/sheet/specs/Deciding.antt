@@ -9,7 +9,8 @@
 -- first-numbers, read-numbers   no reason of the first line has number 0, and none at all, where none of the lengths has
 -- Taken s                what is known of a sheet where no reason applies
 -- taken-of               an answer with number 0 means that it holds, and that no reason of the lengths applies
--- own-answer             where no reason of the lengths applies, the answer is that of the sheet's own reasons
+-- without-lengths        where no reason of the lengths applies, the answer is that of the reasons behind them
+-- own-answer             so it is that of the sheet's own reasons
 -- NEW SHEETS
 -- new-numbers            no reason of a new sheet has number 0, where none of the lengths has
 -- new-current            where no reason of a new sheet's first line applies up to that of its prime, the prime may be proved with
@@ -114,9 +115,12 @@ taken-of s lengths others e =
       rest .0,
     )
 
+without-lengths : (lengths rest : List Reason) → All (λ r. r .number ≢ 0) lengths → answerOf lengths .number ≡ 0 → answerOf (lengths ++ rest) ≡ answerOf rest
+without-lengths lengths rest others e = rw (answerOf-append lengths rest others, eq-eqb (answerOf lengths .number) 0 e)
+
 pub own-answer : (s : List ℕ) (lengths : List Reason) → All (λ r. r .number ≢ 0) lengths → answerOf lengths .number ≡ 0
     → answerOf (readReasons s lengths) ≡ readAnswer s
-own-answer s lengths others e = rw (answerOf-append lengths (sheetNumbers s (sheetP s) (sheetN s) (sheetL s)) others, eq-eqb (answerOf lengths .number) 0 e)
+own-answer s lengths others e = rw (without-lengths lengths (sheetNumbers s (sheetP s) (sheetN s) (sheetL s)) others e)
 
 -- NEW SHEETS
 
@@ -156,4 +160,4 @@ new-retired s lengths h e =
 
 pub new-own : (s : List ℕ) (lengths : List Reason) → All (λ r. r .number ≢ 0) lengths → answerOf lengths .number ≡ 0
     → answerOf (newReasons s lengths) ≡ newAnswer s
-new-own s lengths others e = rw (answerOf-append lengths (sheetNumbers s (sheetP s) (sheetN s) (sheetL s)) others, eq-eqb (answerOf lengths .number) 0 e)
+new-own s lengths others e = rw (without-lengths lengths (sheetNumbers s (sheetP s) (sheetN s) (sheetL s)) others e)

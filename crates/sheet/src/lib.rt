@@ -1,7 +1,7 @@
 // Reading a sheet (document 01, "The sheet"): why it is turned down, or p, n, l and its numbers laid out as they are lent.
 //
-// The public call is `read`. The layers above that read a sheet for a call of their own begin with `decide`, and with `decide_prime` before it where they take new
-// sheets only. Lines count from 0 in the code, as in the definitions.
+// The public call is `read`. The layers above that take new sheets begin with `decide_prime`; one that reads a sheet for a call of its own goes on with `decide`. Lines
+// count from 0 in the code, as in the definitions.
 ghost use mathlib.Core.Path.{_≡_};
 ghost use lib.ListN.{length};
 ghost use Rattle.sheet.specs.Promises.{Reads};

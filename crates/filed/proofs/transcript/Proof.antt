@@ -3,7 +3,6 @@ use mathlib.Core.Path.{_≡_, sym}
 use Prim.Native.Nat.{_-_, _≤_}
 use lib.ListN.{length}
 use lib.Seq.{length-take-le}
-use native.Mathlib.Omega.{arith}
 use borrow.Author.Needs.{needs}
 use Rattle.filed.proofs.transcript.Statement.{statement}
 use Rattle.filed.proofs.transcript.Tie as tie

@@ -1,5 +1,5 @@
 -- `sheet::first::decide_prime` meets its contract: the reason 1, then those of the prime. Assumes nothing.
-use mathlib.Core.Path.{_≡_, _∙_}
+use mathlib.Core.Path.{_∙_}
 use mathlib.Core.List.{List, [], _∷_}
 use native.Mathlib.Omega.{arith}
 use borrow.Author.Needs.{needs}
