@@ -14,7 +14,8 @@ enum { P = 17, N = 2, L = 0, LARGEST = 2013265921, ROOM = 8, UNTOUCHED = 77 };
 
 static const uint32_t selectors[GUPPYSPOON_SELECTORS_LENGTH(N)] = {0, 1, 0, 1, 16, 16, 1, 0, 0, 0};
 static const uint32_t labels[GUPPYSPOON_LABELS_LENGTH(N)] = {0, 2, 1, 2, 2, 3};
-static const uint32_t witness[GUPPYSPOON_WITNESS_LENGTH(N)] = {2, 6, 3, 6, 6, 12};
+static const uint32_t witness[GUPPYSPOON_WITNESS_LENGTH(N)] = {2, 3, 6, 6, 6, 12};
+static const uint32_t by_columns[GUPPYSPOON_WITNESS_LENGTH(N)] = {2, 6, 3, 6, 6, 12};
 static const uint32_t publics[1] = {0};
 static const uint32_t z[N] = {1, 14};
 static const uint32_t pair[GUPPYSPOON_CHECK_ROWS_CHALLENGES] = {1, 1};
@@ -35,6 +36,8 @@ static const char printed[] = "a,4,15\nb,13,7\nc,9,14\nz,16,2\nt,9,12,15\naccept
 static uint32_t values[N];
 static uint32_t coefficients[N];
 static uint32_t positions[GUPPYSPOON_POSITIONS_LENGTH(N)];
+static uint32_t rows[GUPPYSPOON_WITNESS_LENGTH(N)];
+static uint32_t columns[GUPPYSPOON_WITNESS_LENGTH(N)];
 static uint32_t prepared[GUPPYSPOON_PREPARED_LENGTH(N)];
 static uint32_t transcript[GUPPYSPOON_TRANSCRIPT_LENGTH(N)];
 static uint32_t evaluations[GUPPYSPOON_LIST_MOST_LENGTH + 1];
@@ -144,6 +147,27 @@ static void every_gamma(void)
     EXPECT("lost_gammas, reason 6", GUPPYSPOON_LOST_GAMMAS_WORDS, GUPPYSPOON_BAD_LENGTH, 2, 0);
 }
 
+/* The witness from one layout to the other, and back. A refusal leaves what is written. */
+static void every_transfer(void)
+{
+    guppyspoon_to_rows(N, LENT(by_columns), LENT(rows), LENT(answer));
+    EXPECT("to_rows", GUPPYSPOON_TO_ROWS_WORDS, GUPPYSPOON_ACCEPTED, 0);
+    expect_that("the witness row by row", memcmp(rows, witness, sizeof witness) == 0);
+    guppyspoon_to_columns(N, LENT(rows), LENT(columns), LENT(answer));
+    EXPECT("to_columns", GUPPYSPOON_TO_COLUMNS_WORDS, GUPPYSPOON_ACCEPTED, 0);
+    expect_that("the witness column after column", memcmp(columns, by_columns, sizeof by_columns) == 0);
+    guppyspoon_to_rows(N + 1, LENT(witness), LENT(rows), LENT(answer));
+    EXPECT("to_rows, reason 3", GUPPYSPOON_TO_ROWS_WORDS, GUPPYSPOON_BAD_ROWS, 0);
+    guppyspoon_to_rows(N, LENT(list), LENT(rows), LENT(answer));
+    EXPECT("to_rows, reason 6", GUPPYSPOON_TO_ROWS_WORDS, GUPPYSPOON_BAD_LENGTH, 1);
+    guppyspoon_to_columns(2 * GUPPYSPOON_MOST_ROWS_2013265921, LENT(witness), LENT(columns), LENT(answer));
+    EXPECT("to_columns, reason 3", GUPPYSPOON_TO_COLUMNS_WORDS, GUPPYSPOON_BAD_ROWS, 0);
+    guppyspoon_to_columns(N, LENT(witness), LENT(values), LENT(answer));
+    EXPECT("to_columns, reason 6", GUPPYSPOON_TO_COLUMNS_WORDS, GUPPYSPOON_BAD_LENGTH, 2);
+    expect_that("the rows are left", memcmp(rows, witness, sizeof witness) == 0);
+    expect_that("the columns are left", memcmp(columns, by_columns, sizeof by_columns) == 0);
+}
+
 static void every_call(void)
 {
     guppyspoon_inverse(P, 3, LENT(answer));
@@ -180,9 +204,9 @@ static void every_verdict(void)
 {
     check_rows(witness, z);
     EXPECT("pass", GUPPYSPOON_CHECK_ROWS_WORDS, GUPPYSPOON_ACCEPTED, 0, GUPPYSPOON_ROWS_PASS, 0);
-    check_rows((const uint32_t[]){2, 6, 3, 6, 6, 11}, (const uint32_t[]){1, 7});
+    check_rows((const uint32_t[]){2, 3, 6, 6, 6, 11}, (const uint32_t[]){1, 7});
     EXPECT("step", GUPPYSPOON_CHECK_ROWS_WORDS, GUPPYSPOON_ACCEPTED, 0, GUPPYSPOON_ROWS_STEP, 0);
-    check_rows((const uint32_t[]){2, 6, 3, 6, 6, 11}, z);
+    check_rows((const uint32_t[]){2, 3, 6, 6, 6, 11}, z);
     EXPECT("gate", GUPPYSPOON_CHECK_ROWS_WORDS, GUPPYSPOON_ACCEPTED, 0, GUPPYSPOON_ROWS_GATE, 1);
     check_rows(witness, (const uint32_t[]){2, 14});
     EXPECT("start", GUPPYSPOON_CHECK_ROWS_WORDS, GUPPYSPOON_ACCEPTED, 0, GUPPYSPOON_ROWS_START, 0);
@@ -217,9 +241,9 @@ static void every_reason(void)
     EXPECT("reason 6", GUPPYSPOON_DEPOSIT_WORDS, GUPPYSPOON_BAD_LENGTH, 2, 0);
     guppyspoon_permutation(P, N, (const uint32_t[]){0, 2, 1, 2, 2, 6}, GUPPYSPOON_LABELS_LENGTH(N), LENT(positions), LENT(answer));
     EXPECT("reason 8", GUPPYSPOON_PERMUTATION_WORDS, GUPPYSPOON_BAD_LABEL, 5);
-    prove((const uint32_t[]){2, 6, 3, 6, 6, 11}, three);
+    prove((const uint32_t[]){2, 3, 6, 6, 6, 11}, three);
     EXPECT("reason 9", GUPPYSPOON_PROVE_WORDS, GUPPYSPOON_GATE_FAILS, 1);
-    prove((const uint32_t[]){2, 5, 3, 7, 6, 12}, three);
+    prove((const uint32_t[]){2, 3, 6, 5, 7, 12}, three);
     EXPECT("reason 10", GUPPYSPOON_PROVE_WORDS, GUPPYSPOON_COPY_FAILS, 3);
     prove(witness, (const uint32_t[]){1, 2, 2});
     EXPECT("reason 11", GUPPYSPOON_PROVE_WORDS, GUPPYSPOON_ZERO_DENOMINATOR, 1);
@@ -299,6 +323,7 @@ int main(void)
     every_call();
     every_join();
     every_gamma();
+    every_transfer();
     every_verdict();
     every_reason();
     retired_prime();

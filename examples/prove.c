@@ -4,10 +4,10 @@
 
 enum { P = 17, N = 2, L = 0 };
 
-/* Column after column: qL, qR, qO, qM, qC; the labels of a, b, c; a, b, c. */
+/* Column after column: qL, qR, qO, qM, qC; the labels of a, b, c. Row by row: a, b, c. */
 static const uint32_t selectors[] = {0, 1, 0, 1, 16, 16, 1, 0, 0, 0};
 static const uint32_t labels[] = {0, 2, 1, 2, 2, 3};
-static const uint32_t witness[] = {2, 6, 3, 6, 6, 12};
+static const uint32_t witness[] = {2, 3, 6, 6, 6, 12};
 static const uint32_t publics[] = {0}; /* lent with length 0, but never null */
 static const uint32_t challenges[] = {1, 1, 2};
 

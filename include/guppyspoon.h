@@ -15,7 +15,9 @@
  * p is a prime: 17, 97 or 2013265921. 97 is retired: guppyspoon_prove, guppyspoon_deposit and guppyspoon_join take no new sheets in it (reason 16), and
  * every other call takes it as the other two, so that what is filed in it can be read, prepared, opened and checked. An element is a number below p. n is the number of rows, a power of two, from 2 to the greatest for its prime.
  * l is the number of public inputs, 0 to n. A row below l must be a public row: its qL is 1 and its other selectors are 0, so that its gate says that
- * a is the public input. Selectors and witness stand column after column. A polynomial is its coefficients, lowest first.
+ * a is the public input. Selectors stand column after column: qL of every row, then qR, and so on. The witness stands row by row: a, b, c of row 0, then of row 1,
+ * and so on; a position, column * n + row, has its number at place 3 * row + column. (Up to a former version the witness stood column after column:
+ * guppyspoon_to_rows and guppyspoon_to_columns take it from one to the other.) A polynomial is its coefficients, lowest first.
  * "Buffers" below are in the order in which reason 6 counts them, from 1; `answer` is not counted. Those marked "written" may hold anything
  * before the call. `scratch` is the call's working area and holds zeros after an accepted call.
  */
@@ -39,7 +41,7 @@ extern "C" {
 #define GUPPYSPOON_SELECTORS_LENGTH(n) (5 * (size_t)(n))      /* qL, qR, qO, qM, qC */
 #define GUPPYSPOON_LABELS_LENGTH(n) (3 * (size_t)(n))         /* of the columns a, b, c */
 #define GUPPYSPOON_POSITIONS_LENGTH(n) (3 * (size_t)(n))      /* position k = column * n + row */
-#define GUPPYSPOON_WITNESS_LENGTH(n) (3 * (size_t)(n))        /* a, b, c */
+#define GUPPYSPOON_WITNESS_LENGTH(n) (3 * (size_t)(n))        /* a, b, c of each row */
 #define GUPPYSPOON_PREPARED_LENGTH(n) (8 * (size_t)(n))       /* qL, qR, qO, qM, qC, then the permuted tags of a, b, c; polynomials */
 #define GUPPYSPOON_TRANSCRIPT_LENGTH(n) (7 * (size_t)(n) - 3) /* a, b, c, z of n coefficients each, then t of 3n - 3 */
 #define GUPPYSPOON_OPENING_LENGTH(n) (3 * (size_t)(n) - 4)    /* one polynomial; n is 2 or more */
@@ -80,6 +82,8 @@ extern "C" {
 #define GUPPYSPOON_PROVE_WORDS 2
 #define GUPPYSPOON_LOST_GAMMAS_WORDS 3
 #define GUPPYSPOON_READ_WORDS 5
+#define GUPPYSPOON_TO_ROWS_WORDS 2
+#define GUPPYSPOON_TO_COLUMNS_WORDS 2
 #define GUPPYSPOON_DEPOSIT_WORDS 3
 #define GUPPYSPOON_JOIN_WORDS 3
 
@@ -97,6 +101,8 @@ extern "C" {
 #define GUPPYSPOON_PROVE_STACK 245760
 #define GUPPYSPOON_LOST_GAMMAS_STACK 61440
 #define GUPPYSPOON_READ_STACK 32768
+#define GUPPYSPOON_TO_ROWS_STACK 8192
+#define GUPPYSPOON_TO_COLUMNS_STACK 8192
 #define GUPPYSPOON_DEPOSIT_STACK 294912
 #define GUPPYSPOON_JOIN_STACK 57344
 
@@ -106,7 +112,7 @@ enum guppyspoon_reason {
     GUPPYSPOON_ACCEPTED = 0,
     GUPPYSPOON_BAD_START = 1,         /* the sheet is too long, or its line 1 is missing or out of form */
     GUPPYSPOON_BAD_PRIME = 2,         /* p is none of the three primes */
-    GUPPYSPOON_BAD_ROWS = 3,          /* n is no power of two, or outside its prime's bounds, or above 256 on a sheet */
+    GUPPYSPOON_BAD_ROWS = 3,          /* n is no power of two, or outside its prime's bounds (of every prime, where no p is passed), or above 256 on a sheet */
     GUPPYSPOON_BAD_PUBLICS = 4,       /* l exceeds n */
     GUPPYSPOON_BAD_LINE = 5,          /* a later line of the sheet is missing, extra or out of form; detail: the first such line, from 1 */
     GUPPYSPOON_BAD_LENGTH = 6,        /* a buffer has another length than is named at the call; detail: its place among the buffers, from 1 */
@@ -265,6 +271,24 @@ void guppyspoon_lost_gammas(uint32_t p, uint32_t n, const uint32_t *witness, siz
 void guppyspoon_read(const uint8_t *sheet, size_t sheet_length, uint32_t *selectors, size_t selectors_length, uint32_t *labels,
                      size_t labels_length, uint32_t *witness, size_t witness_length, uint32_t *publics, size_t publics_length,
                      uint32_t *challenges, size_t challenges_length, uint32_t *answer, size_t answer_length);
+
+/* A witness that stands column after column (a of every row, then b, then c), row by row. The numbers may be any.
+ *
+ * Buffers: 1 columns, 3n; 2 rows, 3n, written.
+ * Reasons: 3 (n is 2 to 1,024, a power of two), 6.
+ * Answer: number, detail.
+ */
+void guppyspoon_to_rows(uint32_t n, const uint32_t *columns, size_t columns_length, uint32_t *rows, size_t rows_length, uint32_t *answer,
+                        size_t answer_length);
+
+/* A witness that stands row by row, column after column: the way back.
+ *
+ * Buffers: 1 rows, 3n; 2 columns, 3n, written.
+ * Reasons: 3 (n is 2 to 1,024, a power of two), 6.
+ * Answer: number, detail.
+ */
+void guppyspoon_to_columns(uint32_t n, const uint32_t *rows, size_t rows_length, uint32_t *columns, size_t columns_length, uint32_t *answer,
+                           size_t answer_length);
 
 /* The text that the program `deposit` prints of a sheet, zeros behind. A sheet that is refused has a text too (`refused,`, number, detail; the
  * reasons are 1, 2, 16, 3, 4, 5, 7, 8, 14, 9, 10, 11): the call is accepted.

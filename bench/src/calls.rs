@@ -53,6 +53,12 @@ extern "C" {
         witness: *mut u32, witness_length: usize, publics: *mut u32, publics_length: usize, challenges: *mut u32, challenges_length: usize,
         answer: *mut u32, answer_length: usize,
     );
+    fn guppyspoon_to_rows(
+        n: u32, columns: *const u32, columns_length: usize, rows: *mut u32, rows_length: usize, answer: *mut u32, answer_length: usize,
+    );
+    fn guppyspoon_to_columns(
+        n: u32, rows: *const u32, rows_length: usize, columns: *mut u32, columns_length: usize, answer: *mut u32, answer_length: usize,
+    );
     fn guppyspoon_deposit(sheet: *const u8, sheet_length: usize, text: *mut u8, text_length: usize, answer: *mut u32, answer_length: usize);
     fn guppyspoon_join(
         one: *const u8, one_length: usize, two: *const u8, two_length: usize, joined: *mut u8, joined_length: usize, answer: *mut u32,
@@ -75,6 +81,8 @@ pub fn address(name: &str) -> *const () {
         "prove" => guppyspoon_prove as *const (),
         "lost_gammas" => guppyspoon_lost_gammas as *const (),
         "read" => guppyspoon_read as *const (),
+        "to_rows" => guppyspoon_to_rows as *const (),
+        "to_columns" => guppyspoon_to_columns as *const (),
         "deposit" => guppyspoon_deposit as *const (),
         "join" => guppyspoon_join as *const (),
         _ => unreachable!("the library has no guppyspoon_{name}"),
@@ -330,6 +338,14 @@ pub fn read(
             answer.len(),
         )
     }
+}
+
+pub fn to_rows(n: u32, columns: &[u32], rows: &mut [u32], answer: &mut [u32]) {
+    unsafe { guppyspoon_to_rows(n, columns.as_ptr(), columns.len(), rows.as_mut_ptr(), rows.len(), answer.as_mut_ptr(), answer.len()) }
+}
+
+pub fn to_columns(n: u32, rows: &[u32], columns: &mut [u32], answer: &mut [u32]) {
+    unsafe { guppyspoon_to_columns(n, rows.as_ptr(), rows.len(), columns.as_mut_ptr(), columns.len(), answer.as_mut_ptr(), answer.len()) }
 }
 
 pub fn deposit(sheet: &[u8], text: &mut [u8], answer: &mut [u32]) {

@@ -8,7 +8,7 @@ use crate::polynomials::add_product;
 use crate::random::Random;
 use crate::rows;
 
-// A circuit with contents, public numbers and challenges.
+// A circuit with contents, public numbers and challenges, each as it is lent.
 #[derive(Clone)]
 pub struct Circuit {
     pub p: u32,
@@ -47,8 +47,8 @@ impl Circuit {
             for s in 0..5 {
                 self.selectors[s * n + i] = (s == 0) as u32;
             }
+            self.publics[i] = self.contents[rows::place(i, 0)];
         }
-        self.publics.copy_from_slice(&self.contents[..l]);
         for i in l..n {
             let off = rows::gate(p, n, &self.selectors, &self.contents, &self.publics, i);
             let q = self.selectors[4 * n + i];
@@ -61,6 +61,7 @@ impl Circuit {
         let m = n as usize;
         let labels = labels(r, m);
         let values = r.elements(p, 3 * m);
+        let held: Vec<u32> = labels.iter().map(|&v| values[v as usize]).collect();
         let l = match r.below(4) {
             0 => 0,
             1 => n,
@@ -71,7 +72,7 @@ impl Circuit {
             n,
             l,
             selectors: r.elements(p, 5 * m),
-            contents: labels.iter().map(|&v| values[v as usize]).collect(),
+            contents: rows::row_by_row(&held),
             labels,
             publics: vec![0; l as usize],
             challenges: [r.element(p), r.element(p), r.element(p), r.element(p)],
@@ -106,14 +107,15 @@ impl Circuit {
     pub fn damage(&mut self, r: &mut Random) {
         let (p, n, l) = (self.p, self.n as usize, self.l as usize);
         let k = r.below(3 * n);
+        let at = rows::place(k % n, k / n);
         match r.below(5) {
             0 => {
                 let q = r.below(5 * n);
                 self.selectors[q] = r.element(p);
             }
-            1 => self.contents[k] = r.element(p),
+            1 => self.contents[at] = r.element(p),
             2 => {
-                self.contents[k] = r.element(p);
+                self.contents[at] = r.element(p);
                 self.mend_gates();
             }
             3 if l > 0 => {
@@ -123,7 +125,7 @@ impl Circuit {
             _ => {
                 let own = rows::marks(p, &points(p, n));
                 let wired = rows::wired_marks(&own, &self.labels);
-                let part = add(p, self.contents[k], mul(p, self.challenges[0], wired[k]));
+                let part = add(p, self.contents[at], mul(p, self.challenges[0], wired[k]));
                 self.challenges[1] = sub(p, 0, part);
             }
         }
@@ -186,6 +188,8 @@ impl Circuit {
             Kind::Open | Kind::CheckOpening => return self.opening().case(r, kind),
             Kind::Prove => vec![selectors, labels, contents, publics, r.words(7 * n - 3), self.challenges[..3].to_vec(), scratch],
             Kind::LostGammas => vec![contents, vec![beta]],
+            Kind::ToRows => vec![rows::by_position(&contents), r.words(3 * n)],
+            Kind::ToColumns => vec![contents, r.words(3 * n)],
         };
         let n = if kind == Kind::Inverse { r.element(p) } else { self.n };
         Case { kind, p, n, l: self.l, buffers }
@@ -200,7 +204,7 @@ pub fn disturb(r: &mut Random, case: &mut Case) {
     let bound = match case.kind.roles()[k] {
         Role::Elements => p,
         Role::Polynomials => POLYNOMIALS,
-        Role::Labels | Role::Written => return,
+        Role::Labels | Role::Words | Role::Written => return,
     };
     if length > 0 {
         case.buffers[k][r.below(length)] = r.element(bound);
@@ -239,7 +243,7 @@ pub fn damage(r: &mut Random, case: &mut Case) {
     }
     let k = r.below(case.buffers.len());
     match r.below(9) {
-        0 => case.p = r.pick(&[0, 1, 2, 3, 16, 18, 17, 96, 98, 97, LARGEST - 1, LARGEST, LARGEST + 1, u32::MAX]),
+        0 if kind.has_p() => case.p = r.pick(&[0, 1, 2, 3, 16, 18, 17, 96, 98, 97, LARGEST - 1, LARGEST, LARGEST + 1, u32::MAX]),
         1 => {
             case.n = r.pick(&[
                 0,
@@ -275,6 +279,7 @@ pub fn damage(r: &mut Random, case: &mut Case) {
                 Role::Elements => p,
                 Role::Labels => n.wrapping_mul(3),
                 Role::Polynomials => POLYNOMIALS,
+                Role::Words => u32::MAX,
                 Role::Written => return,
             };
             case.buffers[k][at] = r.pick(&[bound, bound, bound.wrapping_add(1), u32::MAX, bound.wrapping_sub(1)]);

@@ -5,6 +5,7 @@ use crate::loss_cases;
 use crate::numbers::{field, LARGEST, PRIMES};
 use crate::opening_cases::{self, mislead, Opening};
 use crate::random::Random;
+use crate::transfer_cases;
 use std::collections::BTreeMap;
 
 // Words around each lent part, which no call may touch.
@@ -76,13 +77,17 @@ fn try_case(r: &mut Random, case: &Case, counts: &mut Counts) -> usize {
     }
 }
 
-// A list of polynomials, contents with a beta, or a circuit, a third of them with a fault of the filling, lent as it should be.
+// A list of polynomials, contents with a beta, words in one of the layouts, or a circuit, a third of them with a fault of the filling, lent as it
+// should be.
 fn lent(r: &mut Random, kind: Kind, p: u32, n: u32) -> Case {
     if kind.has_list() {
         return Opening::new(r, p, n).case(r, kind);
     }
     if kind == Kind::LostGammas {
         return loss_cases::lent(r, p, n);
+    }
+    if !kind.has_p() {
+        return transfer_cases::lent(r, kind, n);
     }
     let mut circuit = Circuit::new(r, p, n);
     if r.once_in(3) {
@@ -130,6 +135,7 @@ fn all_small(r: &mut Random, kind: Kind) -> Vec<Case> {
         Kind::Inverse => all_inverses(),
         Kind::Open | Kind::CheckOpening => opening_cases::all_small(r, kind),
         Kind::LostGammas => loss_cases::all_small(r),
+        Kind::ToRows | Kind::ToColumns => transfer_cases::all_small(r, kind),
         _ => vec![],
     }
 }

@@ -1,5 +1,5 @@
-// The sheet of document 01 with the answers that it gives, and openings of its polynomials, joins of it and counts of the gammas that are lost with it,
-// with answers worked out by hand, on both sides.
+// The sheet of document 01 with the answers that it gives, and openings of its polynomials, joins of it, counts of the gammas that are lost with it and
+// its contents in both layouts, with answers worked out by hand, on both sides.
 use crate::kinds::{plainly, proved, Case, Kind};
 use crate::random::Random;
 use crate::{calls, gammas, join_compare, plain, sheets};
@@ -20,7 +20,9 @@ const PRINTED: &str = "a,4,15\nb,13,7\nc,9,14\nz,16,2\nt,9,12,15\naccept\n";
 
 const SELECTORS: [u32; 10] = [0, 1, 0, 1, 16, 16, 1, 0, 0, 0];
 const LABELS: [u32; 6] = [0, 2, 1, 2, 2, 3];
-const CONTENTS: [u32; 6] = [2, 6, 3, 6, 6, 12];
+// Row by row, and as they were lent before, column after column.
+const CONTENTS: [u32; 6] = [2, 3, 6, 6, 6, 12];
+const COLUMNS: [u32; 6] = [2, 6, 3, 6, 6, 12];
 const TRANSCRIPT: [u32; 11] = [4, 15, 13, 7, 9, 14, 16, 2, 9, 12, 15];
 // How many gammas are lost with each beta: 91 of the 289 pairs together.
 const LOST: [u32; 17] = [4, 4, 5, 6, 6, 4, 5, 6, 4, 5, 6, 6, 6, 6, 6, 6, 6];
@@ -116,6 +118,8 @@ fn deposits() -> usize {
     off += deposit("l = 3", "17,2,0", "17,2,3", "refused,4,0\n");
     off += deposit("content 16", "6,6,12", "6,6,16", "refused,9,1\n");
     off += deposit("content 17", "6,6,12", "6,6,17", "refused,7,15\n");
+    off += deposit("b of row 0 17", "2,3,6\n", "2,17,6\n", "refused,7,11\n");
+    off += deposit("c of row 0 and a of row 1 17", "2,3,6\n6,", "2,3,17\n17,", "refused,7,12\n");
     off += deposit("label 5", "2,2,3", "2,2,5", PRINTED);
     off += deposit("label 6", "2,2,3", "2,2,6", "refused,8,5\n");
     off
@@ -175,10 +179,46 @@ fn losses() -> usize {
         off += gammas::try_circuit(&mut r, &circuit);
     }
     off += lost("beta 17", &CONTENTS, &[17], &[7, 6, 0]);
-    off += lost("content 17", &[2, 6, 3, 6, 6, 17], &[17], &[7, 5, 0]);
+    off += lost("content 17", &[2, 3, 6, 6, 6, 17], &[17], &[7, 5, 0]);
+    off += lost("c of row 0 and a of row 1 17", &[2, 3, 17, 17, 6, 12], &[1], &[7, 2, 0]);
     off += lost("no beta", &CONTENTS, &[], &[6, 2, 0]);
     off += lost("two betas", &CONTENTS, &[1, 1], &[6, 2, 0]);
     off += lost("five contents and no beta", &CONTENTS[..5], &[], &[6, 1, 0]);
+    off
+}
+
+// What `read` lays of the sheet's contents.
+fn reading() -> usize {
+    let mut due = CONTENTS.to_vec();
+    due.resize(sheets::LENGTHS[2], 0);
+    let mut off = 0;
+    for side in ["plain", "proved"] {
+        let mut own = sheets::LENGTHS.map(|length| vec![7; length]);
+        let [a, b, c, d, e] = &mut own;
+        let mut answer = [7; 5];
+        if side == "plain" {
+            answer = sheets::read(SHEET, &mut [a, b, c, d, e].map(|b| &mut b[..]));
+        } else {
+            calls::read(SHEET, a, b, c, d, e, &mut answer);
+        }
+        if answer != [0, 0, 17, 2, 0] || own[2] != due {
+            println!("DIFFERENCE from document 02, reading the sheet, {side}: answer {answer:?}, contents {:?}", &own[2][..12]);
+            off += 1;
+        }
+    }
+    off
+}
+
+// The contents as they are read, taken from one layout to the other, and lengths that are refused.
+fn layouts() -> usize {
+    let untouched = [7; 6];
+    let mut off = reading();
+    off += expect("to rows", Kind::ToRows, 0, &[&COLUMNS, &untouched], &[0, 0], 1, &CONTENTS);
+    off += expect("to columns", Kind::ToColumns, 0, &[&CONTENTS, &untouched], &[0, 0], 1, &COLUMNS);
+    for kind in [Kind::ToRows, Kind::ToColumns] {
+        off += expect("five contents", kind, 0, &[&COLUMNS[..5], &untouched[..5]], &[6, 1], 1, &untouched[..5]);
+        off += expect("room for five", kind, 0, &[&COLUMNS, &untouched[..5]], &[6, 2], 1, &untouched[..5]);
+    }
     off
 }
 
@@ -187,15 +227,16 @@ pub fn run() -> usize {
     let mut off = 0;
     off += expect("wiring", Kind::Permutation, 0, &[&LABELS, &[7; 6]], &[0, 0], 1, &[0, 3, 2, 4, 1, 5]);
     off += prove("the transcript", &CONTENTS, &[1, 1, 2], &[0, 0], &TRANSCRIPT);
-    off += prove("last content 11", &[2, 6, 3, 6, 6, 11], &[1, 1, 2], &[9, 1], &untouched);
-    off += prove("row 1 as 5,7,12", &[2, 5, 3, 7, 6, 12], &[1, 1, 2], &[10, 3], &untouched);
+    off += prove("last content 11", &[2, 3, 6, 6, 6, 11], &[1, 1, 2], &[9, 1], &untouched);
+    off += prove("row 1 as 5,7,12", &[2, 3, 6, 5, 7, 12], &[1, 1, 2], &[10, 3], &untouched);
+    off += prove("b of row 0 17", &[2, 17, 6, 6, 6, 12], &[1, 1, 2], &[7, 11], &untouched);
     off += prove("gamma 14", &CONTENTS, &[1, 14, 2], &[11, 0], &untouched);
     off += prove("gamma 2", &CONTENTS, &[1, 2, 2], &[11, 1], &untouched);
     off += rows("z on the rows", &CONTENTS, &[1, 14], &[1, 1], &[0, 0, 1, 0]);
-    off += rows("beta 0, gamma 1, z = 1", &[2, 5, 3, 7, 6, 12], &[1, 1], &[0, 1], &[0, 0, 1, 0]);
+    off += rows("beta 0, gamma 1, z = 1", &[2, 3, 6, 5, 7, 12], &[1, 1], &[0, 1], &[0, 0, 1, 0]);
     for z0 in 0..17 {
         for z1 in 0..17 {
-            off += no_pass(&[2, 5, 3, 7, 6, 12], &[z0, z1]);
+            off += no_pass(&[2, 3, 6, 5, 7, 12], &[z0, z1]);
         }
     }
     let mut prepared = [7; 16];
@@ -208,6 +249,7 @@ pub fn run() -> usize {
     off += public_rows();
     off += joins();
     off += losses();
+    off += layouts();
     println!("the sheet of document 01: {off} differences");
     off
 }

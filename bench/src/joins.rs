@@ -1,6 +1,7 @@
 // The joining of two sheets of document 02, written plainly from its text.
 use crate::cases::Circuit;
 use crate::plain::{admitted, Refusal};
+use crate::rows::row_of;
 use crate::sheets::{judge, parse, MOST_ROWS};
 
 // The bytes of the buffer that the joined sheet is written into.
@@ -80,7 +81,7 @@ fn write(pair: &[Circuit; 2]) -> Vec<u8> {
         put_line(&mut out, &line);
     }
     for &(k, i) in &rows {
-        put_line(&mut out, &[0, 1, 2].map(|column| pair[k].contents[column * n + i]));
+        put_line(&mut out, &row_of(&pair[k].contents, i));
     }
     for &x in one.publics.iter().chain(&two.publics) {
         put_line(&mut out, &[x]);

@@ -1,5 +1,5 @@
 // The calls by name, the buffers of each in document 01's order, and how a case is lent to either side.
-use crate::{calls, losses, openings, plain};
+use crate::{calls, losses, openings, plain, transfers};
 
 #[derive(Clone, Copy, PartialEq, Debug)]
 pub enum Kind {
@@ -14,9 +14,11 @@ pub enum Kind {
     CheckOpening,
     Prove,
     LostGammas,
+    ToRows,
+    ToColumns,
 }
 
-pub const KINDS: [Kind; 11] = [
+pub const KINDS: [Kind; 13] = [
     Kind::Inverse,
     Kind::Evaluate,
     Kind::Interpolate,
@@ -28,14 +30,17 @@ pub const KINDS: [Kind; 11] = [
     Kind::CheckOpening,
     Kind::Prove,
     Kind::LostGammas,
+    Kind::ToRows,
+    Kind::ToColumns,
 ];
 
-// What a buffer holds: elements, labels or the numbers of polynomials that are read, or numbers that are only written.
+// What a buffer holds: elements, labels, the numbers of polynomials or any words that are read, or numbers that are only written.
 #[derive(Clone, Copy, PartialEq, Debug)]
 pub enum Role {
     Elements,
     Labels,
     Polynomials,
+    Words,
     Written,
 }
 
@@ -53,7 +58,13 @@ impl Kind {
             Kind::CheckOpening => &[Elements, Elements, Polynomials, Elements, Elements, Elements, Written],
             Kind::Prove => &[Elements, Labels, Elements, Elements, Written, Elements, Written],
             Kind::LostGammas => &[Elements, Elements],
+            Kind::ToRows | Kind::ToColumns => &[Words, Written],
         }
+    }
+
+    // Whether the call is lent p: all but those that take contents from one layout to the other.
+    pub fn has_p(self) -> bool {
+        !matches!(self, Kind::ToRows | Kind::ToColumns)
     }
 
     // Whether the call is lent l.
@@ -107,6 +118,8 @@ pub fn plainly(case: &Case, buffers: &mut [&mut [u32]]) -> Vec<u32> {
             plain::prove(p, n, l, selectors, labels, contents, publics, transcript, challenges, scratch).to_vec()
         }
         (Kind::LostGammas, [contents, challenges]) => losses::lost_gammas(p, n, contents, challenges).to_vec(),
+        (Kind::ToRows, [columns, rows]) => transfers::to_rows(n, columns, rows).to_vec(),
+        (Kind::ToColumns, [rows, columns]) => transfers::to_columns(n, rows, columns).to_vec(),
         _ => unreachable!("a case has the buffers of its call"),
     }
 }
@@ -136,6 +149,8 @@ pub fn proved(case: &Case, buffers: &mut [&mut [u32]], answer: &mut [u32]) {
             calls::prove(p, n, l, selectors, labels, contents, publics, transcript, challenges, scratch, answer)
         }
         (Kind::LostGammas, [contents, challenges]) => calls::lost_gammas(p, n, contents, challenges, answer),
+        (Kind::ToRows, [columns, rows]) => calls::to_rows(n, columns, rows, answer),
+        (Kind::ToColumns, [rows, columns]) => calls::to_columns(n, rows, columns, answer),
         _ => unreachable!("a case has the buffers of its call"),
     }
 }

@@ -3,7 +3,7 @@ use crate::kinds::{Case, Kind};
 use crate::numbers::*;
 use crate::opening_cases::every_place;
 use crate::random::Random;
-use crate::rows::marks;
+use crate::rows::{marks, row_by_row};
 
 // The contents drawn for each size where every beta is tried.
 const FILLINGS: usize = 20;
@@ -55,10 +55,11 @@ fn numbers(r: &mut Random, p: u32, n: u32) -> Vec<u32> {
     }
 }
 
-// The contents with which the sums content + beta × mark are the given ones.
+// The contents with which the sums content + beta × mark are the given ones, position by position.
 fn with_sums(p: u32, n: u32, sums: &[u32], beta: u32) -> Vec<u32> {
     let own = marks(p, &points(p, n as usize));
-    sums.iter().zip(own).map(|(&s, mark)| sub(p, s, mul(p, beta, mark))).collect()
+    let held: Vec<u32> = sums.iter().zip(own).map(|(&s, mark)| sub(p, s, mul(p, beta, mark))).collect();
+    row_by_row(&held)
 }
 
 // Such numbers as contents, or as sums. Beta is often 0.

@@ -1,14 +1,14 @@
-// Compares the proved library with a plain implementation of document 01 and of the openings, joins and lost gammas of document 02, holds the C header
-// to the library, and measures stack and time. Run it from the repository's root:
+// Compares the proved library with a plain implementation of document 01 and of the openings, joins, lost gammas and transfers of contents of document
+// 02, holds the C header to the library, and measures stack and time. Run it from the repository's root:
 //
 //     rt staticlib exports && cargo run --release --manifest-path bench/Cargo.toml
 //
 // The parts, of which those named behind `--` are run, or all if none is:
 //
 //     compare   holds both to the sheet of document 01, their transforms of every size to the values at the points, and their provers of every size to one
-//               whose products are made row by row, and the count of the gammas lost to the gammas that prove refuses with 11; then lends the same
-//               inputs to both, many of them, short and long, valid and damaged, and compares every word of every buffer afterwards, those that a
-//               call only reads and the words around each lent part among them
+//               whose products are made row by row, and the count of the gammas lost to the gammas that prove refuses with 11, and takes contents
+//               from one layout to the other and back; then lends the same inputs to both, many of them, short and long, valid and damaged, and
+//               compares every word of every buffer afterwards, those that a call only reads and the words around each lent part among them
 //     header    compares include/guppyspoon.h with the library's source, and compiles and runs the C programs that include it
 //     stack     prints the stack that each call takes at its largest size, beside what the header says
 //     measure   prints the time of each call on both sides and the ratio
@@ -44,6 +44,9 @@ mod sheet_cases;
 mod sheet_compare;
 mod sheets;
 mod stack;
+mod transfer_cases;
+mod transfer_compare;
+mod transfers;
 mod transforms;
 
 const PARTS: [&str; 5] = ["compare", "header", "stack", "measure", "growth"];
@@ -76,6 +79,7 @@ fn main() {
         differences += transforms::run();
         differences += products::run();
         differences += gammas::run(times);
+        differences += transfer_compare::run();
         differences += compare::run(times);
         differences += sheet_compare::run(times);
         differences += join_compare::run(times);

@@ -138,6 +138,8 @@ pub fn run() {
             Kind::Open,
             Kind::CheckOpening,
             Kind::Prove,
+            Kind::ToRows,
+            Kind::ToColumns,
         ] {
             measure_case(&circuit.case(&mut r, kind));
         }

@@ -2,6 +2,7 @@
 use crate::cases::Circuit;
 use crate::numbers::LARGEST;
 use crate::random::Random;
+use crate::rows::row_of;
 use crate::sheets::LONGEST;
 
 fn push_line(out: &mut Vec<u8>, numbers: impl Iterator<Item = u32>) {
@@ -20,7 +21,7 @@ pub fn sheet_of(c: &Circuit) -> Vec<u8> {
         push_line(&mut out, selectors.chain((0..3).map(|k| c.labels[k * n + i])));
     }
     for i in 0..n {
-        push_line(&mut out, (0..3).map(|k| c.contents[k * n + i]));
+        push_line(&mut out, row_of(&c.contents, i).into_iter());
     }
     for &x in &c.publics {
         push_line(&mut out, [x].into_iter());

@@ -1,6 +1,7 @@
 // The sheet of document 01: reading one, and the text of a deposit, written plainly from the document.
 use crate::cases::Circuit;
 use crate::plain::{self, admitted, bound, current, elements, few, labelled, lengths, Refusal};
+use crate::rows::place;
 use std::fmt::Write;
 
 pub const LONGEST: usize = 65536;
@@ -33,14 +34,16 @@ fn line<const K: usize>(line: Option<&[u8]>) -> Option<[u32; K]> {
     fields.next().is_none().then_some(out)
 }
 
-// Lines of K numbers, the first of them line `from`, laid column after column.
-fn block<'a, const K: usize>(lines: &mut impl Iterator<Item = &'a [u8]>, from: u32, count: u32) -> Result<Vec<u32>, Refusal> {
+// Lines of K numbers, the first of them line `from`, each number laid at the place of its row and column.
+fn block<'a, const K: usize>(
+    lines: &mut impl Iterator<Item = &'a [u8]>, from: u32, count: u32, place: impl Fn(usize, usize) -> usize,
+) -> Result<Vec<u32>, Refusal> {
     let n = count as usize;
     let mut out = vec![0; K * n];
     for i in 0..n {
         let numbers = line::<K>(lines.next()).ok_or([5, from + i as u32])?;
         for (k, x) in numbers.into_iter().enumerate() {
-            out[k * n + i] = x;
+            out[place(i, k)] = x;
         }
     }
     Ok(out)
@@ -61,10 +64,11 @@ pub fn parse(sheet: &[u8], new: bool) -> Result<Circuit, Refusal> {
         return Err([3, 0]);
     }
     few(l, n)?;
-    let mut selectors = block::<8>(&mut lines, 2, n)?;
+    let by_columns = |i: usize, k: usize| k * n as usize + i;
+    let mut selectors = block::<8>(&mut lines, 2, n, by_columns)?;
     let labels = selectors.split_off(5 * n as usize);
-    let contents = block::<3>(&mut lines, 2 + n, n)?;
-    let publics = block::<1>(&mut lines, 2 + 2 * n, l)?;
+    let contents = block::<3>(&mut lines, 2 + n, n, place)?;
+    let publics = block::<1>(&mut lines, 2 + 2 * n, l, |i, _| i)?;
     let challenges = line(lines.next()).ok_or([5, 2 + 2 * n + l])?;
     match lines.next() {
         Some(_) => Err([5, 3 + 2 * n + l]),

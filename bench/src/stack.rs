@@ -90,7 +90,9 @@ impl Meter {
         let mut buffers = case.buffers.clone();
         let mut answer = [0; 4];
         let mut arguments = Arguments::default();
-        arguments.number(case.p);
+        if case.kind.has_p() {
+            arguments.number(case.p);
+        }
         arguments.number(case.n);
         if case.kind.has_l() {
             arguments.number(case.l);
@@ -151,6 +153,8 @@ fn name_of(kind: Kind) -> &'static str {
         Kind::CheckOpening => "check_opening",
         Kind::Prove => "prove",
         Kind::LostGammas => "lost_gammas",
+        Kind::ToRows => "to_rows",
+        Kind::ToColumns => "to_columns",
     }
 }
 

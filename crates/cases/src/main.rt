@@ -12,4 +12,5 @@ fn main() {
     prover_circuits::run();
     joining_cases::run();
     losses_cases::run();
+    transfer_cases::run();
 }

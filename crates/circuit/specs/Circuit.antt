@@ -7,7 +7,10 @@
 -- Circuit p n l C           C is a circuit of n rows with l public inputs: l is at most n, the selectors of a row are elements, the label of a position
 --                           is below 3n, and the rows below l are public rows
 -- lentConstraints n s l     the constraints in lent selectors and labels, column after column
--- lentWitness n w k         the wire value of position k, in a lent witness (document 01: the contents), which is lent column after column
+-- witnessPlace n k          where the wire value of position k stands in a lent witness (document 01: the contents), which is lent row by row
+--                           (document 02, request 8): 3 × row + column
+-- witnessPosition n j       the position whose wire value stands at place j: column j % 3, row j / 3
+-- lentWitness n w k         the wire value of position k, in a lent witness
 -- laidWitness n v           the wire values v of the 3n positions, as they are lent
 -- lentPublic x              the public input of a row, in lent public inputs (document 01: public numbers); 0 past their end
 -- permutation m label k     where the copy permutation leads from position k (document 01: the wiring): the next higher of the m positions with
@@ -19,7 +22,7 @@
 use mathlib.Core.Path.{_≡_}
 use mathlib.Core.Bool.{Bool, true, false, _&&_}
 use mathlib.Core.List.{List}
-use Prim.Native.Nat.{ℕ, suc, _+_, _*_, _%_, _-_, _≤_, _<_, pred}
+use Prim.Native.Nat.{ℕ, suc, _+_, _*_, _/_, _%_, _-_, _≤_, _<_, pred}
 use lib.Dec.{eqb, ltb}
 use lib.ListN.{getD}
 use Rattle.algebra.specs.Modular.{first}
@@ -59,12 +62,18 @@ lentConstraints n selectors labels =
       label = λ k. getD labels k 0;
     }
 
--- column × n + row is the position itself
+-- a0, b0, c0, a1 and so on; position k is in column k / n and row k % n
+abbrev pub witnessPlace : ℕ → ℕ → ℕ
+witnessPlace n k = 3 * (k % n) + k / n
+
+abbrev pub witnessPosition : ℕ → ℕ → ℕ
+witnessPosition n j = position n (j % 3) (j / 3)
+
 unfoldable pub lentWitness : ℕ → List ℕ → ℕ → ℕ
-lentWitness n witness k = getD witness k 0
+lentWitness n witness k = getD witness (witnessPlace n k) 0
 
 unfoldable pub laidWitness : ℕ → (ℕ → ℕ) → List ℕ
-laidWitness n v = tab v (3 * n)
+laidWitness n v = tab (λ j. v (witnessPosition n j)) (3 * n)
 
 abbrev pub lentPublic : List ℕ → ℕ → ℕ
 lentPublic publics i = getD publics i 0

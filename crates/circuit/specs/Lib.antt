@@ -3,6 +3,7 @@ pub mod Circuit
 pub mod Buffers
 pub mod Reasons
 pub mod Promises
+pub mod AnyRows
 pub mod Ahead
 pub mod Publics
 pub mod Positions

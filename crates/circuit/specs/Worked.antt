@@ -3,7 +3,7 @@
 -- selectors, labels    those of the sheet
 -- publicSelectors      the same with row 0 made a public row
 -- Worked, worked       the sheet is a circuit with no public input and not one with 1; with row 0 made a public row it is one with 1 and not one with 2;
---                      and the row that 14 names; that these are so
+--                      the row that 14 names; and where the wire values of two and of four rows are lent; that these are so
 --
 -- Assumes nothing.
 use mathlib.Core.Path.{_≡_, refl, sym}
@@ -11,9 +11,10 @@ use mathlib.Core.Bool.{true≢false}
 use mathlib.Core.List.{List, [], _∷_}
 use Prim.Native.Nat.{ℕ}
 use native.Mathlib.Omega.{arith}
+use Rattle.algebra.specs.Lists.{tab}
 use Rattle.algebra.specs.Modular.{first}
 use Rattle.algebra.specs.Polynomial.{Elements}
-use Rattle.circuit.specs.Circuit.{Circuit, lentConstraints}
+use Rattle.circuit.specs.Circuit.{Circuit, lentConstraints, witnessPlace, witnessPosition}
 use Rattle.circuit.specs.Reasons.{unboundRow}
 use Rattle.circuit.specs.RightlyLent.{circuit-of}
 
@@ -34,6 +35,11 @@ pub record Worked : Type 0 where
   pub both-named : unboundRow (lentConstraints 2 selectors labels) 2 ≡ 0
   pub second-named : unboundRow (lentConstraints 2 publicSelectors labels) 2 ≡ 1
   pub row-l-free : unboundRow (lentConstraints 2 publicSelectors labels) 1 ≡ 1
+  -- a0, b0, c0, a1, b1, c1: the positions 0, 2, 4, 1, 3, 5
+  pub two-places : tab (witnessPlace 2) 6 ≡ 0 ∷ 3 ∷ 1 ∷ 4 ∷ 2 ∷ 5 ∷ []
+  pub two-positions : tab (witnessPosition 2) 6 ≡ 0 ∷ 2 ∷ 4 ∷ 1 ∷ 3 ∷ 5 ∷ []
+  pub four-places : tab (witnessPlace 4) 12 ≡ 0 ∷ 3 ∷ 6 ∷ 9 ∷ 1 ∷ 4 ∷ 7 ∷ 10 ∷ 2 ∷ 5 ∷ 8 ∷ 11 ∷ []
+  pub four-positions : tab (witnessPosition 4) 12 ≡ 0 ∷ 4 ∷ 8 ∷ 1 ∷ 5 ∷ 9 ∷ 2 ∷ 6 ∷ 10 ∷ 3 ∷ 7 ∷ 11 ∷ []
 
 labelled : Elements 6 6 labels
 labelled =
@@ -54,7 +60,7 @@ public-below-17 =
     }
 
 pub worked : Worked
-unfolding first unboundRow
+unfolding tab first unboundRow
 worked =
     record {
       sheet = circuit-of {n = 2} {l = 0} (omega arith) below-17 labelled refl .circuit;
@@ -64,4 +70,8 @@ worked =
       both-named = refl;
       second-named = refl;
       row-l-free = refl;
+      two-places = refl;
+      two-positions = refl;
+      four-places = refl;
+      four-positions = refl;
     }

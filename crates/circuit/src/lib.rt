@@ -28,6 +28,7 @@ pub use lengths::t_start;
 pub use lengths::transcript_length;
 pub use lengths::witness_length;
 pub use lengths::z_start;
+pub use parts::any_rows;
 pub use parts::prepared_part;
 pub use parts::t_part;
 pub use parts::wire_part;

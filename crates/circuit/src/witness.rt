@@ -6,12 +6,12 @@ ghost use Rattle.algebra.specs.Lists.{tab};
 ghost use Rattle.circuit.specs.Circuit.{position, lentWitness};
 ghost use Rattle.circuit.specs.Buffers.{witnessLength};
 
-// The wire value of a column and a row, of n rows: the witness is lent column after column.
+// The wire value of a column and a row, of n rows: the witness is lent row by row.
 pub fn wire_value(n: usize, witness: &[u32], column: usize, row: usize) -> u32
     requires { ⌜ (n ≤ 1024) × (column < 3) × (row < n) × (length (now witness) ≡ witnessLength n) ⌝ }
     ensures { λ r. ⌜ r ≡ lentWitness n (now (witness .entry)) (position n column row) ⌝ }
 {
-    witness[column * n + row]
+    witness[3 * row + column]
 }
 
 // The wire values of the 3n positions, in their order.

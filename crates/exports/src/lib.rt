@@ -30,6 +30,7 @@ ghost use Rattle.opening.specs.Promises.{Opens, ChecksOpening};
 ghost use Rattle.prover.specs.Promises.{Proves};
 ghost use Rattle.losses.specs.Losses.{LosesGammas};
 ghost use Rattle.sheet.specs.Promises.{Reads};
+ghost use Rattle.transfer.specs.Transfer.{toRows, toColumns, Transfers};
 ghost use Rattle.joining.specs.Joining.{Joins};
 ghost use Rattle.archive.specs.Deposit.{Deposits};
 ghost use Rattle.exports.specs.Answers.{answerWords, invertedWords, rowWords, pointWords, countedWords, sheetWords, depositedWords, joinedWords, Handed};
@@ -272,6 +273,29 @@ pub extern "C" fn guppyspoon_read(
 {
     let r = sheet::read(sheet, selectors, labels, witness, publics, challenges);
     words::put_sheet(r, answer);
+}
+
+// `transfer::to_rows`: contents that stand column after column, as they were lent before request 8 of document 02, row by row.
+#[no_mangle]
+pub extern "C" fn guppyspoon_to_rows(n: u32, columns: &[u32], rows: &mut [u32], answer: &mut [u32])
+    ensures { λ _. ⌜ Handed answerWords (λ r. Transfers n (toRows n) (now (columns .entry)) (now (rows .entry)) r (now (rows .exit))) (now (answer .entry)) (now (answer .exit)) ⌝ }
+{
+    let r = transfer::to_rows(n, columns, rows);
+    words::put_answer(r, answer);
+}
+
+// `transfer::to_columns`: contents that stand row by row, column after column.
+#[no_mangle]
+pub extern "C" fn guppyspoon_to_columns(
+    n: u32,
+    rows: &[u32],
+    columns: &mut [u32],
+    answer: &mut [u32],
+)
+    ensures { λ _. ⌜ Handed answerWords (λ r. Transfers n (toColumns n) (now (rows .entry)) (now (columns .entry)) r (now (columns .exit))) (now (answer .entry)) (now (answer .exit)) ⌝ }
+{
+    let r = transfer::to_columns(n, rows, columns);
+    words::put_answer(r, answer);
 }
 
 // `archive::deposit`: the text of a sheet's deposit.

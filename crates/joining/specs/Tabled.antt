@@ -12,7 +12,7 @@
 use mathlib.Core.Path.{_≡_, refl, sym, ap, ap₂, _∙_}
 use mathlib.Core.Logic.{_⊎_, inl, inr}
 use mathlib.Core.List.{List, [], _∷_, _++_, append-assoc}
-use Prim.Native.Nat.{ℕ, suc, _+_, _*_, _/_, _%_, _≤_, _<_}
+use Prim.Native.Nat.{ℕ, suc, _+_, _*_, _≤_, _<_}
 use native.Mathlib.Nat.{mod-eq-of-lt, div-eq-of-lt, mod-one, div-one}
 use native.Mathlib.Omega.{arith}
 use lib.ListN.{length, getD, List·getD-append}
@@ -22,18 +22,20 @@ use Rattle.algebra.specs.Lists.{tab}
 use Rattle.algebra.specs.Tables.{getD-tab, tab-ext}
 use Rattle.field.specs.Primes.{rows-power}
 use Rattle.transform.specs.Parts.{laid}
-use Rattle.circuit.specs.Circuit.{position, lentWitness, laidWitness}
-use Rattle.circuit.specs.Buffers.{selectorsLength, labelsLength, witnessLength}
+use Rattle.circuit.specs.Circuit.{position, lentWitness}
+use Rattle.circuit.specs.Buffers.{selectorsLength, labelsLength}
 use Rattle.circuit.specs.Positions.{position-column, position-row}
+use Rattle.circuit.specs.Witness.{lent-laid}
 use Rattle.text.specs.Text.{lineOf}
-use Rattle.sheet.specs.Sheet.{linesDue, sheetP, sheetN, sheetL, onSelectors, onLabels, onWitness, onPublics, onChallenges}
-use Rattle.sheet.specs.Table.{Full, Held}
-use Rattle.sheet.specs.TableLaws.{selectors-same, labels-same, witness-same, publics-same, challenges-same}
+use Rattle.sheet.specs.Sheet.{linesDue, sheetP, sheetN, sheetL, onSelectors, onLabels, onPublics, onChallenges}
+use Rattle.sheet.specs.Due.{due-witness}
+use Rattle.sheet.specs.Table.{byColumns, publicsBlock, challengesBlock, placeIn, inTable, Full, Held}
+use Rattle.sheet.specs.TableLaws.{on-position, selectors-same, labels-same, publics-same, challenges-same}
 use Rattle.sheet.specs.LaidLines.{laid-split, laid-same}
 use Rattle.sheet.specs.Written.{circuitLine, witnessLine, publicLine}
 use Rattle.joining.specs.declared.reasons.Pair.{Pair}
 use Rattle.joining.specs.Joining.{Numbers, onSheet, sourceRow, fromRow, joinedNumbers, joinedText}
-use Rattle.joining.specs.Rows.{Below, source-below, joined-word}
+use Rattle.joining.specs.Rows.{Below, source-below, joined-position, joined-word}
 use Rattle.joining.specs.Lines.{Tables, lineIn, raisedIn, gateIn, contentsIn, publicIn, tableText}
 use Rattle.joining.specs.Deciding.{Filled, Joinable, Known}
 
@@ -51,39 +53,36 @@ module _ (s t : List ℕ) (full : Full (sheetN s) (sheetL s) t) (held : Held s (
   abbrev l : ℕ
   l = sheetL s
 
-  -- the word of a block whose number k is in line row + k % n, field col + k / n
-  word : (row col c i place : ℕ) → i < n → place ≡ 8 * (row + i) + (col + c)
-      → getD t place 0 ≡ getD t (8 * (row + position n c i % n) + (col + position n c i / n)) 0
-  word row col c i place h e = rw (position-row n c i h, position-column n c i h) (ap (λ (k : ℕ). getD t k 0) e)
+  -- the word of a block that is lent column after column, from this line and this field on
+  word : (line field count c i place : ℕ) → i < n → place ≡ 8 * (line + i) + (field + c)
+      → getD t place 0 ≡ inTable t (byColumns n line field count) (position n c i)
+  word line field count c i place h e = ap (λ (k : ℕ). getD t k 0) (omega (arith, position-row n c i h, position-column n c i h))
 
   selector-word : (c i : ℕ) → c < 5 → i < n → getD t (8 * suc i + c) 0 ≡ getD (onSheet s .selectors) (position n c i) 0
   selector-word c i h k =
       let room : position n c i < 5 * n = omega (arith, run-room c 5 n h) in
-      word 1 0 c i (8 * suc i + c) k (omega arith) ∙ selectors-same s n l t full held (position n c i) room
+      word 1 0 (selectorsLength n) c i (8 * suc i + c) k (omega arith) ∙ selectors-same s n l t full held (position n c i) room
       ∙ sym (getD-tab (onSelectors s n l) (selectorsLength n) (position n c i) room)
 
   label-word : (c i : ℕ) → c < 3 → i < n → getD t (8 * suc i + (5 + c)) 0 ≡ getD (onSheet s .labels) (position n c i) 0
   label-word c i h k =
       let room : position n c i < 3 * n = omega (arith, run-room c 3 n h) in
-      word 1 5 c i (8 * suc i + (5 + c)) k (omega arith) ∙ labels-same s n l t full held (position n c i) room
+      word 1 5 (labelsLength n) c i (8 * suc i + (5 + c)) k (omega arith) ∙ labels-same s n l t full held (position n c i) room
       ∙ sym (getD-tab (onLabels s n l) (labelsLength n) (position n c i) room)
 
   wire-word : (c i : ℕ) → c < 3 → i < n → getD t (8 * (n + suc i) + c) 0 ≡ lentWitness n (onSheet s .witness) (position n c i)
-  unfolding lentWitness
   wire-word c i h k =
-      let room : position n c i < 3 * n = omega (arith, run-room c 3 n h) in
-      word (n + 1) 0 c i (8 * (n + suc i) + c) k (omega arith) ∙ witness-same s n l t full held (position n c i) room
-      ∙ sym (getD-tab (onWitness s n l) (witnessLength n) (position n c i) room)
+      held .number (n + suc i) c (omega arith) (omega arith) (omega (arith, due-witness n l (n + suc i) (omega arith) (omega arith)))
+      ∙ sym (on-position s n l c i h k)
 
   public-word : (k : ℕ) → k < l → getD t (8 * (n + n + suc k) + 0) 0 ≡ getD (onSheet s .publics) k 0
   public-word k h =
-      let below : k < n = omega (arith, full .publics) in
-      let place : 8 * (n + n + suc k) + 0 ≡ 8 * (n + n + 1 + k % n) + (0 + k / n) = omega (arith, mod-eq-of-lt below, div-eq-of-lt below) in
+      let place : 8 * (n + n + suc k) + 0 ≡ placeIn (publicsBlock n l) k = omega (arith, mod-one k, div-one k) in
       ap (λ (m : ℕ). getD t m 0) place ∙ publics-same s n l t full held k h ∙ sym (getD-tab (onPublics s n l) l k h)
 
   challenge-word : (k : ℕ) → k < 4 → getD t (8 * (n + n + l + 1) + k) 0 ≡ onChallenges s n l k
   challenge-word k h =
-      let place : 8 * (n + n + l + 1) + k ≡ 8 * (n + n + l + 1 + k % 1) + (0 + k / 1) = omega (arith, mod-one k, div-one k) in
+      let place : 8 * (n + n + l + 1) + k ≡ placeIn (challengesBlock n l) k = omega (arith, mod-eq-of-lt h, div-eq-of-lt h) in
       ap (λ (m : ℕ). getD t m 0) place ∙ challenges-same s n l t full held k h
 
   -- THE LINES
@@ -197,10 +196,11 @@ module _ (one two : List ℕ) (joinable : Joinable (onSheet one) (onSheet two)) 
       go (inr r) b = two-gate r b
 
   contents-same : (i : ℕ) → i < 2 * rows → contentsIn rows ones twos t u i ≡ witnessLine (2 * rows) (J .witness) i
-  unfolding laidWitness
   contents-same i h =
       go (sourceRow rows ones twos i) (source-below rows ones twos one-few two-few i h)
-      ∙ sym (tab-ext _ _ 3 (λ c g. joined-word rows ones twos 3 (lentWitness rows (onSheet one .witness)) (lentWitness rows (onSheet two .witness)) c i g h))
+      ∙ sym (tab-ext _ _ 3 (λ c g.
+      lent-laid (2 * rows) _ (position (2 * rows) c i) (omega (arith, run-room c 3 (2 * rows) g))
+      ∙ joined-position rows ones twos (lentWitness rows (onSheet one .witness)) (lentWitness rows (onSheet two .witness)) c i h))
     where
       go : (s : ℕ ⊎ ℕ) → Below rows s
           → fromRow (λ r. lineIn t (rows + suc r) 3) (λ r. lineIn u (rows + suc r) 3) s

@@ -56,7 +56,7 @@ pub record Worked : Type 0 where
   pub of-first : fromSecond 2 0 1 5 ≡ false
   pub of-second : fromSecond 2 0 1 4 ≡ true
   pub labels : joinedNumbers (onSheet bytes) (onSheet second) .labels ≡ 6 ∷ 0 ∷ 2 ∷ 8 ∷ 7 ∷ 1 ∷ 2 ∷ 8 ∷ 8 ∷ 2 ∷ 3 ∷ 9 ∷ []
-  pub witness : joinedNumbers (onSheet bytes) (onSheet second) .witness ≡ 2 ∷ 2 ∷ 6 ∷ 6 ∷ 3 ∷ 3 ∷ 6 ∷ 6 ∷ 6 ∷ 6 ∷ 12 ∷ 12 ∷ []
+  pub witness : joinedNumbers (onSheet bytes) (onSheet second) .witness ≡ 2 ∷ 3 ∷ 6 ∷ 2 ∷ 3 ∷ 6 ∷ 6 ∷ 6 ∷ 12 ∷ 6 ∷ 6 ∷ 12 ∷ []
   pub text : joinedText bytes second ≡ joinedBytes
   pub taken : answerOf (joinReasons bytes second 65536) ≡ record { number = 0; detail = 0 }
   -- the written buffer is one byte too short, behind a 5 of the first sheet, and before its 8

@@ -14,6 +14,7 @@ pub mod Challenges
 pub mod Conditions
 pub mod Lost
 pub mod GrandProduct
+pub mod SameValues
 pub mod Quotients
 pub mod Completeness
 pub mod Demand3

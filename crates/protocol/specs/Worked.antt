@@ -43,18 +43,18 @@ abbrev pub publics : ℕ → ℕ
 publics = lentPublic []
 
 abbrev pub witness : ℕ → ℕ
-witness = lentWitness 2 (2 ∷ 6 ∷ 3 ∷ 6 ∷ 6 ∷ 12 ∷ [])
+witness = lentWitness 2 (2 ∷ 3 ∷ 6 ∷ 6 ∷ 6 ∷ 12 ∷ [])
 
 abbrev pub lastIs11 : ℕ → ℕ
-lastIs11 = lentWitness 2 (2 ∷ 6 ∷ 3 ∷ 6 ∷ 6 ∷ 11 ∷ [])
+lastIs11 = lentWitness 2 (2 ∷ 3 ∷ 6 ∷ 6 ∷ 6 ∷ 11 ∷ [])
 
 abbrev pub rowIs5-7-12 : ℕ → ℕ
-rowIs5-7-12 = lentWitness 2 (2 ∷ 5 ∷ 3 ∷ 7 ∷ 6 ∷ 12 ∷ [])
+rowIs5-7-12 = lentWitness 2 (2 ∷ 3 ∷ 6 ∷ 5 ∷ 7 ∷ 12 ∷ [])
 
 abbrev pub proveAnswer : ℕ → ℕ → Answer
 proveAnswer p n =
     answerOf
-    (proveReasons p n 0 (0 ∷ 1 ∷ 0 ∷ 1 ∷ 16 ∷ 16 ∷ 1 ∷ 0 ∷ 0 ∷ 0 ∷ []) (0 ∷ 2 ∷ 1 ∷ 2 ∷ 2 ∷ 3 ∷ []) (2 ∷ 6 ∷ 3 ∷ 6 ∷ 6 ∷ 12 ∷ []) [] (replicate 11 0) (1 ∷ 1 ∷ 2 ∷ []) (replicate 32 0))
+    (proveReasons p n 0 (0 ∷ 1 ∷ 0 ∷ 1 ∷ 16 ∷ 16 ∷ 1 ∷ 0 ∷ 0 ∷ 0 ∷ []) (0 ∷ 2 ∷ 1 ∷ 2 ∷ 2 ∷ 3 ∷ []) (2 ∷ 3 ∷ 6 ∷ 6 ∷ 6 ∷ 12 ∷ []) [] (replicate 11 0) (1 ∷ 1 ∷ 2 ∷ []) (replicate 32 0))
 
 -- z at beta 1, gamma 1; the transcript, F and t at alpha 2
 abbrev pub zWorked : List ℕ

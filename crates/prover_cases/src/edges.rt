@@ -231,8 +231,8 @@ fn copies() {
     line(
         b"row 1 as 5,7,12",
         Case::sheet()
-            .with(WITNESS, 1, 5)
-            .with(WITNESS, 3, 7)
+            .with(WITNESS, 3, 5)
+            .with(WITNESS, 4, 7)
             .gives(10, 3),
     );
     word(b"a and b of row 0 share a label", LABELS, 2, 0, 10, 2);
@@ -348,7 +348,7 @@ fn first_contents() {
             .with(WITNESS, 0, 3)
             .gives(8, 5),
     );
-    word(b"9 before 10", WITNESS, 1, 5, 9, 1);
+    word(b"9 before 10", WITNESS, 3, 5, 9, 1);
     line(
         b"9 before 11",
         Case::sheet()

@@ -175,9 +175,9 @@ fn labels_of(case: Case) -> [u32; 7] {
     xs
 }
 
-// The sheet's contents, with a word behind them.
+// The sheet's contents, row by row, with a word behind them.
 fn witness_of(case: Case) -> [u32; 7] {
-    let mut xs = [2, 6, 3, 6, 6, 12, 0];
+    let mut xs = [2, 3, 6, 6, 6, 12, 0];
     changes(case, WITNESS, &mut xs);
     xs
 }

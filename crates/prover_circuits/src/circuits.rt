@@ -394,14 +394,13 @@ fn circuit(label: &[u8], p: u32, n: u32, l: u32, variables: u32)
     requires { ⌜ (1 ≤ n) × (n ≤ 1024) ⌝ }
 {
     let labels = generate::labels(n, variables);
-    let witness = generate::contents(p, n, &labels);
-    // column a stands first
-    let publics = generate::contents(p, n, &labels);
+    let values = generate::values(p, n, &labels);
+    let witness = transfer_cases::rows_of(n, &values);
     let selectors = generate::selectors(p, n, l, &witness);
     let a = buffers::within(&selectors, 5 * (n as usize));
     let b = buffers::within(&labels, 3 * (n as usize));
     let c = buffers::within(&witness, 3 * (n as usize));
-    let d = buffers::within(&publics, l as usize);
+    let d = buffers::within(&values, l as usize);
     lines(
         label,
         p,
@@ -410,7 +409,7 @@ fn circuit(label: &[u8], p: u32, n: u32, l: u32, variables: u32)
         &selectors[..a],
         &labels[..b],
         &witness[..c],
-        &publics[..d],
+        &values[..d],
     );
 }
 

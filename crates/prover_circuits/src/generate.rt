@@ -71,10 +71,10 @@ fn value(p: u32, seed: u32, label: u32) -> u32 {
     mul_add(p, seed, label, mul_add(p, seed, label, label))
 }
 
-// Contents that give each variable its value.
-fn fill_contents(p: u32, seed: u32, labels: &[u32], witness: &mut [u32]) {
-    for i in 0..witness.len() {
-        witness[i] = value(p, seed, at(labels, i));
+// Values that give each variable its own, by position.
+fn fill_values(p: u32, seed: u32, labels: &[u32], values: &mut [u32]) {
+    for i in 0..values.len() {
+        values[i] = value(p, seed, at(labels, i));
     }
 }
 
@@ -82,9 +82,9 @@ fn fill_contents(p: u32, seed: u32, labels: &[u32], witness: &mut [u32]) {
 fn wires(p: u32, n: u32, row: u32, selectors: &[u32], witness: &[u32]) -> u32 {
     let m = n as usize;
     let i = row as usize;
-    let a = at(witness, i);
-    let b = at(witness, m + i);
-    let c = at(witness, 2 * m + i);
+    let a = at(witness, 3 * i);
+    let b = at(witness, 3 * i + 1);
+    let c = at(witness, 3 * i + 2);
     let left = mul_add(p, 0, at(selectors, i), a);
     let right = mul_add(p, left, at(selectors, m + i), b);
     let out = mul_add(p, right, at(selectors, 2 * m + i), c);
@@ -128,10 +128,10 @@ pub fn labels(n: u32, variables: u32) -> [u32; 3072] {
     xs
 }
 
-// Contents that give each variable its value.
-pub fn contents(p: u32, n: u32, labels: &[u32]) -> [u32; 3072] {
+// Values that give each variable its own, by position: column a stands first.
+pub fn values(p: u32, n: u32, labels: &[u32]) -> [u32; 3072] {
     let mut xs = field::blank_3072();
-    fill_contents(p, n, labels, &mut xs);
+    fill_values(p, n, labels, &mut xs);
     xs
 }
 

@@ -16,7 +16,7 @@ use Rattle.field.specs.Fields.{generator, root, point, multiplier, tag}
 use Rattle.transform.specs.Transform.{evaluation, interpolation}
 use Rattle.transform.specs.Passes.{strided, oddWord, passed}
 use Rattle.circuit.specs.Buffers.{wirePart, zPart, tPart}
-use Rattle.circuit.specs.Circuit.{Constraints, lentConstraints, lentPublic, lentWitness, permutation, gate}
+use Rattle.circuit.specs.Circuit.{Constraints, lentConstraints, lentPublic, witnessPlace, lentWitness, laidWitness, permutation, gate}
 use Rattle.circuit.specs.Worked.{publicSelectors, labels}
 use Rattle.protocol.specs.Protocol.{wiredTag, runningZ, rowN, rowD, polyN, polyD, polyL, gatePart, stepPart, startPart, polyF, quotient, preparedPoly, prepared, wiresOf, proved, accept, pointVerdict, zeroFactor, tagged, lostGammas}
 use Rattle.protocol.specs.Worked.{circuit, publics, witness, rowIs5-7-12, zWorked, Case, number, inverted, numbers, perhaps, atPoint, _&_}
@@ -118,6 +118,8 @@ table =
     ∷ record { what = "1/4"; is = inverted (inverse 17 4); should = inverted (some 13) }
     ∷ record { what = "the way back"; is = numbers (interpolation 17 4 (coef coefficients)); should = numbers (8 ∷ 6 ∷ 3 ∷ 1 ∷ []) }
     ∷ record { what = "and its values"; is = numbers (evaluation 17 4 (8 ∷ 6 ∷ 3 ∷ 1 ∷ [])); should = numbers (1 ∷ 2 ∷ 4 ∷ 8 ∷ []) }
+    ∷ record { what = "where the number of each position is lent"; is = numbers (tab (witnessPlace 2) 6); should = numbers (0 ∷ 3 ∷ 1 ∷ 4 ∷ 2 ∷ 5 ∷ []) }
+    ∷ record { what = "the numbers as they are lent"; is = numbers (laidWitness 2 witness); should = numbers (2 ∷ 3 ∷ 6 ∷ 6 ∷ 6 ∷ 12 ∷ []) }
     ∷ record { what = "tags of where the permutation leads"; is = numbers (tab (wiredTag 17 2 circuit) 6); should = numbers (1 ∷ 14 ∷ 3 ∷ 9 ∷ 16 ∷ 8 ∷ []) }
     ∷ record { what = "selectors and wired tags as polynomials"; is = numbers (prepared 17 2 circuit); should = numbers (9 ∷ 8 ∷ 9 ∷ 8 ∷ 16 ∷ 0 ∷ 9 ∷ 9 ∷ 0 ∷ 0 ∷ 16 ∷ 2 ∷ 6 ∷ 14 ∷ 12 ∷ 4 ∷ []) }
     ∷ record { what = "qL × a"; is = numbers (reduced 17 3 (mulP (pre 0) (wire 0))); should = numbers (2 ∷ 14 ∷ 1 ∷ []) }
@@ -180,5 +182,5 @@ table =
     ∷ []
 
 pub by-hand : All (λ r. r .is ≡ r .should) table
-unfolding tab gathered occurs different powF first inverse reduced quotientVanishing remainderVanishing generator root point multiplier tag evaluation interpolation strided passed lentWitness permutation rowN rowD runningZ polyN polyD polyL gatePart stepPart startPart polyF quotient prepared pointVerdict gate zeroFactor tagged lostGammas polynomialOf evaluationsOf mixtureOf
-by-hand = refl & refl & refl & refl & refl & refl & refl & refl & refl & refl & refl & refl & refl & refl & refl & refl & refl & refl & refl & refl & refl & refl & refl & refl & refl & refl & refl & refl & refl & refl & refl & refl & refl & refl & refl & refl & refl & refl & refl & refl & refl & refl & refl & refl & refl & refl & refl & refl & refl & refl & refl & refl & refl & refl & refl & refl & refl & refl & refl & refl & refl & refl & refl & refl & refl & refl & refl & refl & refl & refl & refl & refl & refl & refl & tt
+unfolding tab gathered occurs different powF first inverse reduced quotientVanishing remainderVanishing generator root point multiplier tag evaluation interpolation strided passed lentWitness laidWitness permutation rowN rowD runningZ polyN polyD polyL gatePart stepPart startPart polyF quotient prepared pointVerdict gate zeroFactor tagged lostGammas polynomialOf evaluationsOf mixtureOf
+by-hand = refl & refl & refl & refl & refl & refl & refl & refl & refl & refl & refl & refl & refl & refl & refl & refl & refl & refl & refl & refl & refl & refl & refl & refl & refl & refl & refl & refl & refl & refl & refl & refl & refl & refl & refl & refl & refl & refl & refl & refl & refl & refl & refl & refl & refl & refl & refl & refl & refl & refl & refl & refl & refl & refl & refl & refl & refl & refl & refl & refl & refl & refl & refl & refl & refl & refl & refl & refl & refl & refl & refl & refl & refl & refl & refl & refl & tt

@@ -72,7 +72,7 @@ fn filled(label: &[u8], witness: &[u32], z: &[u32], challenges: &[u32]) {
 
 // Other public inputs and z, with the sheet's contents and challenges.
 fn public(label: &[u8], l: u32, publics: &[u32], z: &[u32]) {
-    worked(label, l, publics, &[2, 6, 3, 6, 6, 12], z, &[1, 1]);
+    worked(label, l, publics, &[2, 3, 6, 6, 6, 12], z, &[1, 1]);
 }
 
 // Other selectors and labels, with public inputs, and the sheet's contents, z and challenges.
@@ -84,7 +84,7 @@ fn bound(label: &[u8], l: u32, selectors: &[u32], labels: &[u32], publics: &[u32
         l,
         selectors,
         labels,
-        &[2, 6, 3, 6, 6, 12],
+        &[2, 3, 6, 6, 6, 12],
         publics,
         &[1, 14],
         &[1, 1],
@@ -99,10 +99,10 @@ fn unbound(label: &[u8], place: usize, element: u32) {
 }
 
 fn verdicts() {
-    let contents = [2, 6, 3, 6, 6, 12];
-    let others = [2, 5, 3, 7, 6, 12];
+    let contents = [2, 3, 6, 6, 6, 12];
+    let others = [2, 3, 6, 5, 7, 12];
     filled(b"worked sheet", &contents, &[1, 14], &[1, 1]);
-    filled(b"last content 11", &[2, 6, 3, 6, 6, 11], &[1, 14], &[1, 1]);
+    filled(b"last content 11", &[2, 3, 6, 6, 6, 11], &[1, 14], &[1, 1]);
     filled(b"z starts at 2", &contents, &[2, 11], &[1, 1]);
     filled(b"wrong step to row 1", &contents, &[1, 13], &[1, 1]);
     filled(b"row 1 as 5,7,12", &others, &[1, 14], &[1, 1]);
@@ -136,7 +136,7 @@ fn public_rows() {
 }
 
 fn lengths() {
-    let contents = [2, 6, 3, 6, 6, 12];
+    let contents = [2, 3, 6, 6, 6, 12];
     public(b"l above n", 3, &[0, 0, 0], &[1, 14]);
     filled(b"contents one too short", &contents[..5], &[1, 14], &[1, 1]);
     public(b"public inputs one too many", 0, &[0], &[1, 14]);
@@ -145,9 +145,17 @@ fn lengths() {
 }
 
 fn elements() {
-    let contents = [2, 6, 3, 6, 6, 12];
-    filled(b"content 16 taken", &[2, 6, 3, 6, 6, 16], &[1, 14], &[1, 1]);
-    filled(b"content 17", &[2, 6, 3, 6, 6, 17], &[17, 14], &[1, 1]);
+    let contents = [2, 3, 6, 6, 6, 12];
+    filled(b"content 16 taken", &[2, 3, 6, 6, 6, 16], &[1, 14], &[1, 1]);
+    filled(b"content 17", &[2, 3, 6, 6, 6, 17], &[17, 14], &[1, 1]);
+    filled(b"b of row 0 17", &[2, 17, 6, 6, 6, 12], &[1, 14], &[1, 1]);
+    filled(b"a of row 1 17", &[2, 3, 6, 17, 6, 12], &[1, 14], &[1, 1]);
+    filled(
+        b"c of row 0 and a of row 1 17",
+        &[2, 3, 17, 17, 6, 12],
+        &[1, 14],
+        &[1, 1],
+    );
     public(b"public input 17", 1, &[17], &[17, 14]);
     filled(b"z 17", &contents, &[1, 17], &[17, 1]);
     filled(b"challenge 17", &contents, &[1, 14], &[1, 17]);
@@ -162,7 +170,7 @@ fn numbers(label: &[u8], p: u32, n: u32, selectors: &[u32], labels: &[u32]) {
         0,
         selectors,
         labels,
-        &[2, 6, 3, 6, 6, 12],
+        &[2, 3, 6, 6, 6, 12],
         &[],
         &[1, 14],
         &[1, 1],

@@ -1,7 +1,9 @@
 -- Blocks of the table: that they fit, and what is laid out of them.
 --
--- block-fits       a block of at most c columns fits where its lines and columns do
+-- columns-fit, rows-fit   a block fits where its lines and fields do
 -- selectors-fit, labels-fit, witness-fit, publics-fit, challenges-fit   the blocks that are lent
+-- count-room       a block that is a known one has as many numbers as that has
+-- laid-block       what is laid out of it is what is laid out of that one
 -- stopped          a table of numbers that stop at `count` is those numbers, and zeros behind them
 -- padded-same      numbers that agree are laid out the same
 --
@@ -19,34 +21,52 @@ use Rattle.algebra.specs.Lists.{tab}
 use Rattle.algebra.specs.Tables.{tab-ext, tab-add, tab-const}
 use Rattle.circuit.specs.Buffers.{selectorsLength, labelsLength, witnessLength}
 use Rattle.sheet.specs.Sheet.{padded}
-use Rattle.sheet.specs.Table.{Fits, Full}
+use Rattle.sheet.specs.declared.blocks.Block.{Block}
+use Rattle.sheet.specs.Table.{byColumns, byRows, selectorsBlock, labelsBlock, witnessBlock, publicsBlock, challengesBlock, inTable, Fits, Full}
 
-pub block-fits : (t : List ℕ) (width row col c count : ℕ) → 0 < width → row + width ≤ 770 → length t ≡ 6160 → col + c ≤ 8 → count ≤ c * width
-    → Fits t width row col count
-block-fits t width row col c count some lines long fields few =
+pub columns-fit : (t : List ℕ) (n line field c count : ℕ) → 0 < n → line + n ≤ 770 → length t ≡ 6160 → field + c ≤ 8 → count ≤ c * n
+    → Fits t (byColumns n line field count)
+columns-fit t n line field c count some lines long fields few =
     record {
       some = some;
-      within = λ k h. inside (k % width) (k / width) (mod-lt k some) (div-lt-iff-lt-mul {x = k} {y = c} some .1 (omega arith));
+      within = λ k h. inside (k % n) (k / n) (mod-lt k some) (div-lt-iff-lt-mul {x = k} {y = c} some .1 (omega arith));
     }
   where
-    inside : (a b : ℕ) → a < width → b < c → 8 * (row + a) + (col + b) < length t
+    inside : (a b : ℕ) → a < n → b < c → 8 * line + field + 8 * a + 1 * b < length t
     inside a b g h = omega arith
 
-module _ (n l : ℕ) (t : List ℕ) (full : Full n l t) where
-  pub selectors-fit : {m : ℕ} → m ≡ selectorsLength n → Fits t n 1 0 m
-  selectors-fit {m} e = block-fits t n 1 0 5 m (full .some) (omega arith) (full .long) (omega arith) (omega arith)
+pub rows-fit : (t : List ℕ) (width rows line count : ℕ) → 0 < width → width ≤ 8 → line + rows ≤ 770 → length t ≡ 6160 → count ≤ rows * width
+    → Fits t (byRows width line count)
+rows-fit t width rows line count some fields lines long few =
+    record {
+      some = some;
+      within = λ k h. inside (k % width) (k / width) (mod-lt k some) (div-lt-iff-lt-mul {x = k} {y = rows} some .1 (omega arith));
+    }
+  where
+    inside : (a b : ℕ) → a < width → b < rows → 8 * line + 1 * a + 8 * b < length t
+    inside a b g h = omega arith
 
-  pub labels-fit : {m : ℕ} → m ≡ labelsLength n → Fits t n 1 5 m
-  labels-fit {m} e = block-fits t n 1 5 3 m (full .some) (omega arith) (full .long) (omega arith) (omega arith)
+module _ (n l : ℕ) (t : List ℕ) (full : Full n l t) {B : Block} where
+  pub selectors-fit : B ≡ selectorsBlock n → Fits t B
+  selectors-fit e = rw e (columns-fit t n 1 0 5 (selectorsLength n) (full .some) (omega arith) (full .long) (omega arith) (omega arith))
 
-  pub witness-fit : {m : ℕ} → m ≡ witnessLength n → Fits t n (n + 1) 0 m
-  witness-fit {m} e = block-fits t n (n + 1) 0 3 m (full .some) (omega arith) (full .long) (omega arith) (omega arith)
+  pub labels-fit : B ≡ labelsBlock n → Fits t B
+  labels-fit e = rw e (columns-fit t n 1 5 3 (labelsLength n) (full .some) (omega arith) (full .long) (omega arith) (omega arith))
 
-  pub publics-fit : Fits t n (n + n + 1) 0 l
-  publics-fit = block-fits t n (n + n + 1) 0 1 l (full .some) (omega arith) (full .long) (omega arith) (omega arith)
+  pub witness-fit : B ≡ witnessBlock n → Fits t B
+  witness-fit e = rw e (rows-fit t 3 n (n + 1) (witnessLength n) (omega arith) (omega arith) (omega arith) (full .long) (omega arith))
 
-  pub challenges-fit : Fits t 1 (n + n + l + 1) 0 4
-  challenges-fit = block-fits t 1 (n + n + l + 1) 0 4 4 (omega arith) (omega arith) (full .long) (omega arith) (omega arith)
+  pub publics-fit : B ≡ publicsBlock n l → Fits t B
+  publics-fit e = rw e (rows-fit t 1 l (n + n + 1) l (omega arith) (omega arith) (omega arith) (full .long) (omega arith))
+
+  pub challenges-fit : B ≡ challengesBlock n l → Fits t B
+  challenges-fit e = rw e (rows-fit t 4 1 (n + n + l + 1) 4 (omega arith) (omega arith) (omega arith) (full .long) (omega arith))
+
+pub count-room : {B B' : Block} {m : ℕ} → B ≡ B' → B' .count ≤ m → B .count ≤ m
+count-room {B} {B'} {m} e h = rw e h
+
+pub laid-block : (t : List ℕ) {out : List ℕ} {m k : ℕ} {B B' : Block} → B ≡ B' → m ≡ k → out ≡ padded m (inTable t B) (B .count) → out ≡ padded k (inTable t B') (B' .count)
+laid-block t {out} {m} {k} {B} {B'} e f h = h ∙ rw (e, f)
 
 pub stopped : (f : ℕ → ℕ) (count m : ℕ) → count ≤ m → tab (λ k. cond (ltb k count) (f k) 0) m ≡ padded m f count
 stopped f count m h =

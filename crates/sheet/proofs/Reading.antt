@@ -65,7 +65,7 @@ module _ (s selectors labels witness publics challenges : List ℕ) (r : SheetAn
             selectors-laid = rw accepted (same .selectors-laid ∙ padded-same (selectorsLength sheetRows) (selectorsLength n) (selectorsIn t n) (onSelectors s n l) (selectors-same s n l t filled held));
             labels-laid = rw accepted (same .labels-laid ∙ padded-same (labelsLength sheetRows) (labelsLength n) (labelsIn t n) (onLabels s n l) (labels-same s n l t filled held));
             witness-laid = rw accepted (same .witness-laid ∙ padded-same (witnessLength sheetRows) (witnessLength n) (witnessIn t n) (onWitness s n l) (witness-same s n l t filled held));
-            publics-laid = rw accepted (same .publics-laid ∙ padded-same sheetRows l (publicsIn t n) (onPublics s n l) (publics-same s n l t filled held));
+            publics-laid = rw accepted (same .publics-laid ∙ padded-same sheetRows l (publicsIn t n l) (onPublics s n l) (publics-same s n l t filled held));
             challenges-laid = rw accepted (same .challenges-laid ∙ padded-same 4 4 (challengesIn t n l) (onChallenges s n l) (challenges-same s n l t filled held));
           }
 

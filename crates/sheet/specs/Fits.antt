@@ -13,6 +13,7 @@ use lib.ListN.{length, length-append}
 use Rattle.algebra.specs.Lists.{tab}
 use Rattle.algebra.specs.Tables.{length-tab}
 use Rattle.transform.specs.Parts.{laid}
+use Rattle.circuit.specs.Circuit.{position, lentWitness}
 use Rattle.text.specs.Text.{lineOf}
 use Rattle.text.specs.Puts.{length-numbers}
 use Rattle.sheet.specs.Written.{column, circuitLine, witnessLine, publicLine, sheetText}
@@ -44,7 +45,7 @@ module _ (p n l : ℕ) (selectors labels witness publics challenges : List ℕ) 
         length-append inputs (lineOf challenges),
         length-numbers (p ∷ n ∷ l ∷ []) (omega arith),
         laid-long (λ i. lineOf (circuitLine n selectors labels i)) 88 n (λ i h. line-long (circuitLine n selectors labels i) 8 (circuit-long n selectors labels i) (omega arith)),
-        laid-long (λ i. lineOf (witnessLine n witness i)) 33 n (λ i h. line-long (witnessLine n witness i) 3 (length-tab (column n witness i) 3) (omega arith)),
+        laid-long (λ i. lineOf (witnessLine n witness i)) 33 n (λ i h. line-long (witnessLine n witness i) 3 (length-tab (λ c. lentWitness n witness (position n c i)) 3) (omega arith)),
         laid-long (λ i. lineOf (publicLine publics i)) 11 l (λ i h. length-numbers (publicLine publics i) (omega arith)),
         line-long challenges 4 four (omega arith),
       )

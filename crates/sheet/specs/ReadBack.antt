@@ -23,9 +23,10 @@ use Rattle.algebra.specs.Tables.{length-tab, getD-tab, tab-ext, tab-getD, all-a
 use Rattle.field.specs.Fields.{isField, isRows}
 use Rattle.field.specs.ReasonLaws.{elements-none}
 use Rattle.transform.specs.Parts.{laid}
-use Rattle.circuit.specs.Circuit.{lentConstraints}
+use Rattle.circuit.specs.Circuit.{position, witnessPlace, witnessPosition, lentConstraints, lentWitness}
 use Rattle.circuit.specs.Buffers.{selectorsLength, labelsLength, witnessLength}
 use Rattle.circuit.specs.Reasons.{unboundRow}
+use Rattle.circuit.specs.Witness.{position-below, place-position}
 use Rattle.circuit.specs.RightlyLent.{RightCircuit, selectors-right, labels-right, at-none, bound}
 use Rattle.text.specs.Text.{isLineAt, lineOf}
 use Rattle.sheet.specs.Sheet.{sheetRows, fieldsDue, linesDue, lineAt, numberOf, sheetP, sheetN, sheetL, badLine, isExtra, onSelectors, onLabels, onWitness, onPublics, onChallenges, sheetElements, readAnswer}
@@ -112,7 +113,7 @@ module _ (p n l : ℕ) (selectors labels witness publics challenges : List ℕ) 
 
   module _ (right : Right p n l selectors labels witness publics challenges) where
     line-small : (i : ℕ) → Small (sheetLine i)
-    unfolding sheetLine
+    unfolding sheetLine lentWitness
     line-small i =
         picked Small (eqb i 0) (right .first-small)
         (picked Small (leb i n)
@@ -120,7 +121,7 @@ module _ (p n l : ℕ) (selectors labels witness publics challenges : List ℕ) 
         (all-tab (λ (x : ℕ). x < 4294967296) (column n selectors (i - 1)) 5 (λ c h. word-small selectors (c * n + (i - 1)) (right .selectors-small)))
         (all-tab (λ (x : ℕ). x < 4294967296) (column n labels (i - 1)) 3 (λ c h. word-small labels (c * n + (i - 1)) (right .labels-small))))
         (picked Small (leb i (n + n))
-        (all-tab (λ (x : ℕ). x < 4294967296) (column n witness (i - (n + 1))) 3 (λ c h. word-small witness (c * n + (i - (n + 1))) (right .witness-small)))
+        (all-tab (λ (x : ℕ). x < 4294967296) _ 3 (λ c h. word-small witness (witnessPlace n (position n c (i - (n + 1)))) (right .witness-small)))
         (picked Small (leb i (n + n + l)) (word-small publics (i - (n + n + 1)) (right .publics-small), tt) (right .challenges-small))))
 
     line-long : (i : ℕ) → length (sheetLine i) ≡ fieldsDue n l i
@@ -128,7 +129,7 @@ module _ (p n l : ℕ) (selectors labels witness publics challenges : List ℕ) 
     line-long i =
         length-pick (eqb i 0) _ _ _ _ refl
         (length-pick (leb i n) _ _ _ _ (circuit-long n selectors labels (i - 1))
-        (length-pick (leb i (n + n)) _ _ _ _ (length-tab (column n witness (i - (n + 1))) 3)
+        (length-pick (leb i (n + n)) _ _ _ _ (length-tab _ 3)
         (length-pick (leb i (n + n + l)) _ _ _ _ refl (right .challenges-long))))
 
     -- number j of line i, in the text as lines
@@ -175,13 +176,18 @@ module _ (p n l : ℕ) (selectors labels witness publics challenges : List ℕ) 
         ∙ getD-tab (column n labels (k % n)) 3 (k / n) b
         ∙ back-column labels k
 
-    witness-back : (k : ℕ) → k < witnessLength n → onWitness lines n l k ≡ getD witness k 0
-    witness-back k h =
-        let a = row k 3 h in
-        let b = col k 3 h in
-        number (n + suc (k % n)) (k / n) (witnessLine n witness (k % n)) (omega arith) (line-witness (n + suc (k % n)) (k % n) (omega arith) a) (omega (arith, length-tab (column n witness (k % n)) 3))
-        ∙ getD-tab (column n witness (k % n)) 3 (k / n) b
-        ∙ back-column witness k
+    -- the position k at place j: its column and row are those of a line, and its wire value stands at place j again
+    witness-back : (j : ℕ) → j < witnessLength n → onWitness lines n l j ≡ getD witness j 0
+    unfolding lentWitness
+    witness-back j h =
+        let k : ℕ = witnessPosition n j in
+        let below : k < 3 * n = position-below n j h in
+        let a = row k 3 below in
+        let b = col k 3 below in
+        number (n + suc (k % n)) (k / n) (witnessLine n witness (k % n)) (omega arith) (line-witness (n + suc (k % n)) (k % n) (omega arith) a) (omega (arith, length-tab (λ c. lentWitness n witness (position n c (k % n))) 3))
+        ∙ getD-tab (λ c. lentWitness n witness (position n c (k % n))) 3 (k / n) b
+        ∙ ap (lentWitness n witness) (div-add-mod' k n)
+        ∙ ap (λ (m : ℕ). getD witness m 0) (place-position n j h)
 
     publics-back : (k : ℕ) → k < l → onPublics lines n l k ≡ getD publics k 0
     publics-back k h =

@@ -37,6 +37,7 @@ use Rattle.algebra.specs.Lists.{tab}
 use Rattle.algebra.specs.Modular.{first}
 use Rattle.field.specs.declared.Answer.{Answer}
 use Rattle.field.specs.Reasons.{Reason, answerOf, shapeReasons, badLengths, currentOnly}
+use Rattle.circuit.specs.Circuit.{witnessPosition}
 use Rattle.circuit.specs.Buffers.{selectorsLength, labelsLength, witnessLength}
 use Rattle.circuit.specs.Reasons.{numberReasons}
 use Rattle.text.specs.Text.{numberAt, fieldAt, isLineAt}
@@ -78,15 +79,18 @@ isExtra s n l = ltb (lineAt s n l (linesDue n l)) (length s)
 
 -- NUMBERS AS THEY ARE LENT
 
--- lent column after column: number k of a buffer is in column k / n and row k % n
+-- selectors and labels are lent column after column: number k is in column k / n and row k % n
 abbrev pub onSelectors : List ℕ → ℕ → ℕ → ℕ → ℕ
 onSelectors s n l k = numberOf s n l (suc (k % n)) (k / n)
 
 abbrev pub onLabels : List ℕ → ℕ → ℕ → ℕ → ℕ
 onLabels s n l k = numberOf s n l (suc (k % n)) (5 + k / n)
 
+-- the witness is lent row by row: number j is the wire value of the position that stands there, of which k / n and k % n are column and row
 abbrev pub onWitness : List ℕ → ℕ → ℕ → ℕ → ℕ
-onWitness s n l k = numberOf s n l (n + suc (k % n)) (k / n)
+onWitness s n l j =
+    let k : ℕ = witnessPosition n j in
+    numberOf s n l (n + suc (k % n)) (k / n)
 
 abbrev pub onPublics : List ℕ → ℕ → ℕ → ℕ → ℕ
 onPublics s n l k = numberOf s n l (n + n + suc k) 0

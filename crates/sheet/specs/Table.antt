@@ -1,11 +1,14 @@
 -- The table of a sheet's numbers, which the reader fills before it lays them out: 8 words for each line.
 --
--- inTable t width row col k   number k of a block: in line row + k % width, field col + k / width
--- selectorsIn, labelsIn, witnessIn, publicsIn, challengesIn   the blocks that are lent
+-- byColumns n line field count   a block of the table that is lent column after column: `count` numbers of n lines, from this line and this field on
+-- byRows width line count         one that is lent row by row: `count` numbers of lines of `width` fields, from this line on
+-- selectorsBlock, labelsBlock, witnessBlock, publicsBlock, challengesBlock   the blocks that are lent
+-- placeIn B k, inTable t B k      where number k of a block stands, and the number
+-- selectorsIn, labelsIn, witnessIn, publicsIn, challengesIn   number k of each block that is lent
 -- tableElements n l t  the elements in the order of reason 7
 -- Held s n l m t       the table has the numbers of the lines from 1 to m - 1 of the sheet s
 -- Begins s n l at t    what reading the lines from line 1 on asks: it starts at `at`, and the lines fit into the table
--- Fits t width row col count   the table has room for a block of `count` numbers
+-- Fits t B             the block lies within the table
 -- Full n l t           the table has room for the lines of n rows and l public inputs
 -- Room                 the five lent buffers have the lengths that sheetRows rows need
 -- Laid n l t           the five lent buffers hold the blocks of the table
@@ -17,29 +20,54 @@ use Prim.Native.Nat.{ℕ, _+_, _*_, _/_, _%_, _≤_, _<_}
 use lib.ListN.{length, getD}
 use Rattle.algebra.specs.Lists.{tab}
 use Rattle.circuit.specs.Buffers.{selectorsLength, labelsLength, witnessLength}
+use Rattle.sheet.specs.declared.blocks.Block.{Block}
 use Rattle.sheet.specs.Sheet.{sheetRows, fieldsDue, lineAt, numberOf, padded}
 
-abbrev pub inTable : List ℕ → ℕ → ℕ → ℕ → ℕ → ℕ
-inTable t width row col k = getD t (8 * (row + k % width) + (col + k / width)) 0
+abbrev pub byColumns : (n line field count : ℕ) → Block
+byColumns n line field count = record { start = 8 * line + field; run = n; step = 8; leap = 1; count = count }
+
+abbrev pub byRows : (width line count : ℕ) → Block
+byRows width line count = record { start = 8 * line; run = width; step = 1; leap = 8; count = count }
+
+abbrev pub selectorsBlock : ℕ → Block
+selectorsBlock n = byColumns n 1 0 (selectorsLength n)
+
+abbrev pub labelsBlock : ℕ → Block
+labelsBlock n = byColumns n 1 5 (labelsLength n)
+
+abbrev pub witnessBlock : ℕ → Block
+witnessBlock n = byRows 3 (n + 1) (witnessLength n)
+
+abbrev pub publicsBlock : ℕ → ℕ → Block
+publicsBlock n l = byRows 1 (n + n + 1) l
+
+abbrev pub challengesBlock : ℕ → ℕ → Block
+challengesBlock n l = byRows 4 (n + n + l + 1) 4
+
+abbrev pub placeIn : Block → ℕ → ℕ
+placeIn B k = B .start + B .step * (k % B .run) + B .leap * (k / B .run)
+
+abbrev pub inTable : List ℕ → Block → ℕ → ℕ
+inTable t B k = getD t (placeIn B k) 0
 
 abbrev pub selectorsIn : List ℕ → ℕ → ℕ → ℕ
-selectorsIn t n k = inTable t n 1 0 k
+selectorsIn t n = inTable t (selectorsBlock n)
 
 abbrev pub labelsIn : List ℕ → ℕ → ℕ → ℕ
-labelsIn t n k = inTable t n 1 5 k
+labelsIn t n = inTable t (labelsBlock n)
 
 abbrev pub witnessIn : List ℕ → ℕ → ℕ → ℕ
-witnessIn t n k = inTable t n (n + 1) 0 k
+witnessIn t n = inTable t (witnessBlock n)
 
-abbrev pub publicsIn : List ℕ → ℕ → ℕ → ℕ
-publicsIn t n k = inTable t n (n + n + 1) 0 k
+abbrev pub publicsIn : List ℕ → ℕ → ℕ → ℕ → ℕ
+publicsIn t n l = inTable t (publicsBlock n l)
 
 abbrev pub challengesIn : List ℕ → ℕ → ℕ → ℕ → ℕ
-challengesIn t n l k = inTable t 1 (n + n + l + 1) 0 k
+challengesIn t n l = inTable t (challengesBlock n l)
 
 abbrev pub tableElements : ℕ → ℕ → List ℕ → List ℕ
 tableElements n l t =
-    tab (selectorsIn t n) (selectorsLength n) ++ (tab (witnessIn t n) (witnessLength n) ++ (tab (publicsIn t n) l ++ tab (challengesIn t n l) 4))
+    tab (selectorsIn t n) (selectorsLength n) ++ (tab (witnessIn t n) (witnessLength n) ++ (tab (publicsIn t n l) l ++ tab (challengesIn t n l) 4))
 
 pub record Held (s : List ℕ) (n l m : ℕ) (t : List ℕ) : Type 0 where
   pub number : (i j : ℕ) → 0 < i → i < m → j < fieldsDue n l i → getD t (8 * i + j) 0 ≡ numberOf s n l i j
@@ -56,9 +84,9 @@ pub record Begins (s : List ℕ) (n l at : ℕ) (t : List ℕ) : Type 0 where
   pub starts : at ≡ lineAt s n l 1
   pub within : at ≤ length s
 
-pub record Fits (t : List ℕ) (width row col count : ℕ) : Type 0 where
-  pub some : 0 < width
-  pub within : (k : ℕ) → k < count → 8 * (row + k % width) + (col + k / width) < length t
+pub record Fits (t : List ℕ) (B : Block) : Type 0 where
+  pub some : 0 < B .run
+  pub within : (k : ℕ) → k < B .count → placeIn B k < length t
 
 pub record Room (selectors labels witness publics challenges : List ℕ) : Type 0 where
   pub selectors-long : length selectors ≡ selectorsLength sheetRows
@@ -71,5 +99,5 @@ pub record Laid (n l : ℕ) (t selectors labels witness publics challenges : Lis
   pub selectors-laid : selectors ≡ padded (selectorsLength sheetRows) (selectorsIn t n) (selectorsLength n)
   pub labels-laid : labels ≡ padded (labelsLength sheetRows) (labelsIn t n) (labelsLength n)
   pub witness-laid : witness ≡ padded (witnessLength sheetRows) (witnessIn t n) (witnessLength n)
-  pub publics-laid : publics ≡ padded sheetRows (publicsIn t n) l
+  pub publics-laid : publics ≡ padded sheetRows (publicsIn t n l) l
   pub challenges-laid : challenges ≡ padded 4 (challengesIn t n l) 4

@@ -1,5 +1,6 @@
 -- A table that holds all lines of a sheet has its numbers, as they are lent.
 --
+-- on-position     the wire value of a column and a row, in the witness as it is lent, is the field of that column on the line of that row
 -- selectors-same, labels-same, witness-same, publics-same, challenges-same   number k of each buffer
 -- elements-same, selectors-list-same, labels-list-same   the elements end to end, the selectors and the labels
 -- elements-long   how many elements the table has
@@ -15,14 +16,21 @@ use lib.ListN.{length, getD, length-append}
 use Rattle.algebra.specs.Ends.{run-room}
 use Rattle.algebra.specs.Lists.{tab}
 use Rattle.algebra.specs.Tables.{length-tab, getD-tab, tab-ext}
-use Rattle.circuit.specs.Circuit.{position, isPublicRow, lentConstraints}
+use Rattle.circuit.specs.Circuit.{position, witnessPosition, isPublicRow, lentConstraints, lentWitness, laidWitness}
 use Rattle.circuit.specs.Buffers.{selectorsLength, labelsLength, witnessLength}
 use Rattle.circuit.specs.Positions.{position-column, position-row}
+use Rattle.circuit.specs.Witness.{lent-laid}
 use Rattle.circuit.specs.Reasons.{unboundRow}
 use Rattle.circuit.specs.Selectors.{isPublicAt, unboundIn, unbound-same}
 use Rattle.sheet.specs.Sheet.{fieldsDue, linesDue, numberOf, onSelectors, onLabels, onWitness, onPublics, onChallenges, sheetElements}
 use Rattle.sheet.specs.Due.{due-circuit, due-witness, due-publics, due-challenges}
-use Rattle.sheet.specs.Table.{Full, Held, selectorsIn, labelsIn, witnessIn, publicsIn, challengesIn, tableElements}
+use Rattle.sheet.specs.Table.{selectorsBlock, placeIn, Full, Held, selectorsIn, labelsIn, witnessIn, publicsIn, challengesIn, tableElements}
+
+pub on-position : (s : List ℕ) (n l c i : ℕ) → c < 3 → i < n → lentWitness n (tab (onWitness s n l) (witnessLength n)) (position n c i) ≡ numberOf s n l (n + suc i) c
+unfolding laidWitness
+on-position s n l c i g h =
+    lent-laid n (λ k. numberOf s n l (n + suc (k % n)) (k / n)) (position n c i) (omega (arith, run-room c 3 n g))
+    ∙ ap₂ (λ (r c : ℕ). numberOf s n l (n + suc r) c) (position-row n c i h) (position-column n c i h)
 
 module _ (s : List ℕ) (n l : ℕ) (t : List ℕ) (full : Full n l t) (held : Held s n l (linesDue n l) t) where
   row : (k : ℕ) → k % n < n
@@ -31,40 +39,43 @@ module _ (s : List ℕ) (n l : ℕ) (t : List ℕ) (full : Full n l t) (held : H
   column : (k c : ℕ) → k < c * n → k / n < c
   column k c h = div-lt-iff-lt-mul {x = k} {y = c} (full .some) .1 h
 
-  -- field j of line i, where that is field j' of line i'
-  word : (i j i' j' : ℕ) → i ≡ i' → j ≡ j' → 0 < i → i < linesDue n l → j < fieldsDue n l i → getD t (8 * i + j) 0 ≡ numberOf s n l i' j'
-  word i j i' j' p q g h f = held .number i j g h f ∙ ap₂ (numberOf s n l) p q
+  -- the word at a place that is field j of line i
+  word : (place i j : ℕ) → place ≡ 8 * i + j → 0 < i → i < linesDue n l → j < fieldsDue n l i → getD t place 0 ≡ numberOf s n l i j
+  word place i j e g h f = ap (λ (m : ℕ). getD t m 0) e ∙ held .number i j g h f
 
   pub selectors-same : (k : ℕ) → k < selectorsLength n → selectorsIn t n k ≡ onSelectors s n l k
   selectors-same k h =
       let a = row k in
       let b = column k 5 h in
-      word (1 + k % n) (0 + k / n) (suc (k % n)) (k / n) (omega arith) (omega arith) (omega arith) (omega arith) (omega (arith, due-circuit n l (1 + k % n) (omega arith) (omega arith)))
+      word _ (suc (k % n)) (k / n) (omega arith) (omega arith) (omega arith) (omega (arith, due-circuit n l (suc (k % n)) (omega arith) (omega arith)))
 
   pub labels-same : (k : ℕ) → k < labelsLength n → labelsIn t n k ≡ onLabels s n l k
   labels-same k h =
       let a = row k in
       let b = column k 3 h in
-      word (1 + k % n) (5 + k / n) (suc (k % n)) (5 + k / n) (omega arith) (omega arith) (omega arith) (omega arith) (omega (arith, due-circuit n l (1 + k % n) (omega arith) (omega arith)))
+      word _ (suc (k % n)) (5 + k / n) (omega arith) (omega arith) (omega arith) (omega (arith, due-circuit n l (suc (k % n)) (omega arith) (omega arith)))
 
-  pub witness-same : (k : ℕ) → k < witnessLength n → witnessIn t n k ≡ onWitness s n l k
-  witness-same k h =
-      let a = row k in
-      let b = column k 3 h in
-      word (n + 1 + k % n) (0 + k / n) (n + suc (k % n)) (k / n) (omega arith) (omega arith) (omega arith) (omega arith) (omega (arith, due-witness n l (n + 1 + k % n) (omega arith) (omega arith)))
+  -- column and row of the position at place j of the witness are j % 3 and j / 3
+  pub witness-same : (j : ℕ) → j < witnessLength n → witnessIn t n j ≡ onWitness s n l j
+  witness-same j h =
+      let k : ℕ = witnessPosition n j in
+      let a : j / 3 < n = div-lt-iff-lt-mul {k = 3} {x = j} {y = n} (omega arith) .1 (omega arith) in
+      let b : j % 3 < 3 = mod-lt j (omega arith) in
+      let r : k % n ≡ j / 3 = position-row n (j % 3) (j / 3) a in
+      let c : k / n ≡ j % 3 = position-column n (j % 3) (j / 3) a in
+      word _ (n + suc (k % n)) (k / n) (omega arith) (omega arith) (omega arith) (omega (arith, due-witness n l (n + suc (k % n)) (omega arith) (omega arith)))
 
-  pub publics-same : (k : ℕ) → k < l → publicsIn t n k ≡ onPublics s n l k
+  pub publics-same : (k : ℕ) → k < l → publicsIn t n l k ≡ onPublics s n l k
   publics-same k h =
-      let below : k < n = omega (arith, full .publics) in
-      let a : k % n ≡ k = mod-eq-of-lt below in
-      let b : k / n ≡ 0 = div-eq-of-lt below in
-      word (n + n + 1 + k % n) (0 + k / n) (n + n + suc k) 0 (omega arith) (omega arith) (omega arith) (omega arith) (omega (arith, due-publics n l (n + n + 1 + k % n) (omega arith) (omega arith)))
+      let a : k % 1 ≡ 0 = mod-one k in
+      let b : k / 1 ≡ k = div-one k in
+      word _ (n + n + suc k) 0 (omega arith) (omega arith) (omega arith) (omega (arith, due-publics n l (n + n + suc k) (omega arith) (omega arith)))
 
   pub challenges-same : (k : ℕ) → k < 4 → challengesIn t n l k ≡ onChallenges s n l k
   challenges-same k h =
-      let a : k % 1 ≡ 0 = mod-one k in
-      let b : k / 1 ≡ k = div-one k in
-      word (n + n + l + 1 + k % 1) (0 + k / 1) (n + n + l + 1) k (omega arith) (omega arith) (omega arith) (omega arith) (omega (arith, due-challenges n l (n + n + l + 1 + k % 1) (omega arith)))
+      let a : k % 4 ≡ k = mod-eq-of-lt h in
+      let b : k / 4 ≡ 0 = div-eq-of-lt h in
+      word _ (n + n + l + 1) k (omega arith) (omega arith) (omega arith) (omega (arith, due-challenges n l (n + n + l + 1) (omega arith)))
 
   pub selectors-list-same : tab (selectorsIn t n) (selectorsLength n) ≡ tab (onSelectors s n l) (selectorsLength n)
   selectors-list-same = tab-ext (selectorsIn t n) (onSelectors s n l) (selectorsLength n) selectors-same
@@ -73,7 +84,7 @@ module _ (s : List ℕ) (n l : ℕ) (t : List ℕ) (full : Full n l t) (held : H
   elements-same =
       ap₂ (λ (a b : List ℕ). a ++ b) selectors-list-same
       (ap₂ (λ (a b : List ℕ). a ++ b) (tab-ext (witnessIn t n) (onWitness s n l) (witnessLength n) witness-same)
-      (ap₂ (λ (a b : List ℕ). a ++ b) (tab-ext (publicsIn t n) (onPublics s n l) l publics-same)
+      (ap₂ (λ (a b : List ℕ). a ++ b) (tab-ext (publicsIn t n l) (onPublics s n l) l publics-same)
       (tab-ext (challengesIn t n l) (onChallenges s n l) 4 challenges-same)))
 
   pub labels-list-same : tab (labelsIn t n) (labelsLength n) ≡ tab (onLabels s n l) (labelsLength n)
@@ -86,7 +97,7 @@ elements-long n l t =
 module _ (n : ℕ) (t : List ℕ) where
   selector-word : (s i : ℕ) → s < 5 → i < n → getD t (8 * suc i + s) 0 ≡ getD (tab (selectorsIn t n) (selectorsLength n)) (position n s i) 0
   selector-word s i h k =
-      let place : 8 * suc i + s ≡ 8 * (1 + position n s i % n) + (0 + position n s i / n) =
+      let place : 8 * suc i + s ≡ placeIn (selectorsBlock n) (position n s i) =
       omega (arith, position-row n s i k, position-column n s i k) in
       ap (λ (m : ℕ). getD t m 0) place
       ∙ sym (getD-tab (selectorsIn t n) (selectorsLength n) (position n s i) (omega (arith, run-room s 5 n h)))

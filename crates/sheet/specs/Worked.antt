@@ -17,6 +17,7 @@ use Rattle.algebra.specs.Modular.{first}
 use Rattle.field.specs.Fields.{isField, isCurrent, isRows, greatestRows}
 use Rattle.field.specs.Reasons.{answerOf, firstOther, firstAbove}
 use Rattle.transform.specs.Parts.{laid}
+use Rattle.circuit.specs.Circuit.{lentWitness}
 use Rattle.circuit.specs.Reasons.{unboundRow}
 use Rattle.text.specs.Text.{isDigit, digitsEnd, valueOf, isNumberAt, numberAt, fieldAt, isFieldAt, isLineAt, decimalOf, fieldsText, fieldsOf}
 use Rattle.sheet.specs.Sheet.{fieldsDue, lineAt, numberOf, sheetP, sheetN, sheetL, badLine, onSelectors, onLabels, onWitness, onPublics, onChallenges, sheetReasons, readAnswer, newAnswer}
@@ -72,12 +73,12 @@ pub record Worked : Type 0 where
   pub l-is : sheetL bytes ≡ 0
   pub selectors : tab (onSelectors bytes 2 0) 10 ≡ 0 ∷ 1 ∷ 0 ∷ 1 ∷ 16 ∷ 16 ∷ 1 ∷ 0 ∷ 0 ∷ 0 ∷ []
   pub labels : tab (onLabels bytes 2 0) 6 ≡ 0 ∷ 2 ∷ 1 ∷ 2 ∷ 2 ∷ 3 ∷ []
-  pub witness : tab (onWitness bytes 2 0) 6 ≡ 2 ∷ 6 ∷ 3 ∷ 6 ∷ 6 ∷ 12 ∷ []
+  pub witness : tab (onWitness bytes 2 0) 6 ≡ 2 ∷ 3 ∷ 6 ∷ 6 ∷ 6 ∷ 12 ∷ []
   pub publics : tab (onPublics bytes 2 0) 0 ≡ []
   pub challenges : tab (onChallenges bytes 2 0) 4 ≡ 1 ∷ 1 ∷ 2 ∷ 2 ∷ []
   pub accepted : readAnswer bytes ≡ record { number = 0; detail = 0 }
   pub written :
-      sheetText 17 2 0 (0 ∷ 1 ∷ 0 ∷ 1 ∷ 16 ∷ 16 ∷ 1 ∷ 0 ∷ 0 ∷ 0 ∷ []) (0 ∷ 2 ∷ 1 ∷ 2 ∷ 2 ∷ 3 ∷ []) (2 ∷ 6 ∷ 3 ∷ 6 ∷ 6 ∷ 12 ∷ []) [] (1 ∷ 1 ∷ 2 ∷ 2 ∷ [])
+      sheetText 17 2 0 (0 ∷ 1 ∷ 0 ∷ 1 ∷ 16 ∷ 16 ∷ 1 ∷ 0 ∷ 0 ∷ 0 ∷ []) (0 ∷ 2 ∷ 1 ∷ 2 ∷ 2 ∷ 3 ∷ []) (2 ∷ 3 ∷ 6 ∷ 6 ∷ 6 ∷ 12 ∷ []) [] (1 ∷ 1 ∷ 2 ∷ 2 ∷ [])
       ≡ bytes
   -- the first line without its byte 10, and with a zero before 17
   pub first-open : readAnswer (without 6) ≡ record { number = 1; detail = 0 }
@@ -90,8 +91,10 @@ pub record Worked : Type 0 where
   pub last-open : readAnswer (without 61) ≡ record { number = 5; detail = 6 }
   pub extra : readAnswer (with 62 (49 ∷ [])) ≡ record { number = 5; detail = 7 }
   pub zero-ahead : readAnswer (with 7 (48 ∷ [])) ≡ record { number = 5; detail = 2 }
-  -- 1 before the last content, 12: it is 112, and place 15 of the elements; 1 before the last label, 3: it is 13, and position 5
+  -- 1 before the last content, 12: it is 112, and place 15 of the elements; 2 and 1 before b of row 0, 3: it is 213, and place 11, behind ten selectors and a of row 0;
+  -- 1 before the last label, 3: it is 13, and position 5
   pub high : readAnswer (with 51 (49 ∷ [])) ≡ record { number = 7; detail = 15 }
+  pub high-b : readAnswer (with 43 (50 ∷ 49 ∷ [])) ≡ record { number = 7; detail = 11 }
   pub high-label : readAnswer (with 39 (49 ∷ [])) ≡ record { number = 8; detail = 5 }
   -- row 0 is a public row; qL is 0, qR, qO, qM, qC are 1 in turn; row 1 is none, and l is 2
   pub public-row : readAnswer publicBytes ≡ record { number = 0; detail = 0 }
@@ -115,7 +118,7 @@ pub record Worked : Type 0 where
   pub new-label : newAnswer (with 39 (49 ∷ [])) ≡ record { number = 8; detail = 5 }
 
 pub worked : Worked
-unfolding tab first isDigit digitsEnd valueOf isNumberAt numberAt fieldAt isFieldAt isLineAt fieldsDue lineAt numberOf badLine isField isCurrent isRows greatestRows firstOther firstAbove unboundRow laid decimalOf fieldsText fieldsOf ones
+unfolding tab first isDigit digitsEnd valueOf isNumberAt numberAt fieldAt isFieldAt isLineAt fieldsDue lineAt numberOf badLine isField isCurrent isRows greatestRows firstOther firstAbove unboundRow laid decimalOf fieldsText fieldsOf ones lentWitness
 worked =
     record {
       p-is = refl;
@@ -137,6 +140,7 @@ worked =
       extra = refl;
       zero-ahead = refl;
       high = refl;
+      high-b = refl;
       high-label = refl;
       public-row = refl;
       qL-none = refl;

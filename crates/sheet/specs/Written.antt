@@ -14,6 +14,7 @@ use Prim.Native.Nat.{ℕ, _+_, _*_, _<_}
 use lib.ListN.{length, getD}
 use Rattle.algebra.specs.Lists.{tab, All}
 use Rattle.transform.specs.Parts.{laid}
+use Rattle.circuit.specs.Circuit.{position, lentWitness}
 use Rattle.circuit.specs.Buffers.{selectorsLength, labelsLength, witnessLength}
 use Rattle.text.specs.Text.{lineOf}
 
@@ -24,7 +25,7 @@ abbrev pub circuitLine : ℕ → List ℕ → List ℕ → ℕ → List ℕ
 circuitLine n selectors labels row = tab (column n selectors row) 5 ++ tab (column n labels row) 3
 
 abbrev pub witnessLine : ℕ → List ℕ → ℕ → List ℕ
-witnessLine n witness row = tab (column n witness row) 3
+witnessLine n witness row = tab (λ c. lentWitness n witness (position n c row)) 3
 
 abbrev pub publicLine : List ℕ → ℕ → List ℕ
 publicLine publics row = getD publics row 0 ∷ []

@@ -1,4 +1,4 @@
-// Numbers of the table in the order in which they are lent: number k of a block is in line row + k % width, field col + k / width.
+// Numbers of the table in the order in which they are lent, block by block.
 ghost use mathlib.Core.Path.{_≡_};
 ghost use mathlib.Core.Bool.{cond};
 ghost use Prim.Native.Nat.{_+_, _≤_, _<_};
@@ -9,26 +9,33 @@ ghost use Rattle.field.specs.Reasons.{firstAbove};
 ghost use Rattle.circuit.specs.Buffers.{selectorsLength, labelsLength, witnessLength};
 ghost use Rattle.sheet.specs.Sheet.{sheetRows, padded};
 ghost use Rattle.sheet.specs.Table.{inTable, selectorsIn, labelsIn, witnessIn, publicsIn, challengesIn, Fits, Full, Room, Laid};
+use super::blocks;
+use super::blocks::Block;
 
-// Number k of a block of `count` numbers; 0 from there on.
-fn word(table: &[u32], width: usize, row: usize, col: usize, count: usize, k: usize) -> u32
-    requires { ⌜ Fits (now table) width row col count ⌝ }
-    ensures { λ r. ⌜ r ≡ cond (ltb k count) (inTable (now (table .entry)) width row col k) 0 ⌝ }
+// Number k of a block; 0 behind its end.
+fn word(table: &[u32], block: Block, k: usize) -> u32
+    requires { ⌜ Fits (now table) block ⌝ }
+    ensures { λ r. ⌜ r ≡ cond (ltb k (block .count)) (inTable (now (table .entry)) block k) 0 ⌝ }
 {
-    if k < count {
-        return table[8 * (row + k % width) + (col + k / width)];
+    let start = block.start;
+    let run = block.run;
+    let step = block.step;
+    let leap = block.leap;
+    if k < block.count {
+        return table[start + step * (k % run) + leap * (k / run)];
     }
     0
 }
 
-// The place of the first number of a block that is p or more; `count` where there is none.
-pub fn above(p: u32, table: &[u32], width: usize, row: usize, col: usize, count: usize) -> usize
-    requires { ⌜ Fits (now table) width row col count ⌝ }
-    ensures { λ r. ⌜ r ≡ firstAbove p (tab (inTable (now (table .entry)) width row col) count) ⌝ }
+// The place of the first number of a block that is p or more; the block's count where there is none.
+pub fn above(p: u32, table: &[u32], block: Block) -> usize
+    requires { ⌜ Fits (now table) block ⌝ }
+    ensures { λ r. ⌜ r ≡ firstAbove p (tab (inTable (now (table .entry)) block) (block .count)) ⌝ }
 {
+    let count = block.count;
     let mut k = 0;
     while k < count {
-        if p <= word(table, width, row, col, count, k) {
+        if p <= word(table, block, k) {
             return k;
         }
         k += 1;
@@ -37,34 +44,25 @@ pub fn above(p: u32, table: &[u32], width: usize, row: usize, col: usize, count:
 }
 
 // The same of blocks end to end: `long` numbers have been passed, of which `at` was the answer, and a block follows.
-pub fn then_above(
-    p: u32,
-    at: usize,
-    long: usize,
-    table: &[u32],
-    width: usize,
-    row: usize,
-    col: usize,
-    count: usize,
-) -> usize
-    requires { ⌜ Fits (now table) width row col count × (long + count < 4294967296) ⌝ }
-    ensures { λ r. ⌜ r ≡ cond (ltb at long) at (long + firstAbove p (tab (inTable (now (table .entry)) width row col) count)) ⌝ }
+pub fn then_above(p: u32, at: usize, long: usize, table: &[u32], block: Block) -> usize
+    requires { ⌜ Fits (now table) block × (long + block .count < 4294967296) ⌝ }
+    ensures { λ r. ⌜ r ≡ cond (ltb at long) at (long + firstAbove p (tab (inTable (now (table .entry)) block) (block .count))) ⌝ }
 {
     if at < long {
         return at;
     }
-    long + above(p, table, width, row, col, count)
+    long + above(p, table, block)
 }
 
 // A block laid at the start of `out`, zeros behind.
-fn lay(table: &[u32], width: usize, row: usize, col: usize, count: usize, out: &mut [u32])
-    requires { ⌜ Fits (now table) width row col count ⌝ }
-    requires { ⌜ count ≤ length (now out) ⌝ }
-    ensures { λ _. ⌜ now (out .exit) ≡ padded (length (now (out .entry))) (inTable (now (table .entry)) width row col) count ⌝ }
+fn lay(table: &[u32], block: Block, out: &mut [u32])
+    requires { ⌜ Fits (now table) block ⌝ }
+    requires { ⌜ block .count ≤ length (now out) ⌝ }
+    ensures { λ _. ⌜ now (out .exit) ≡ padded (length (now (out .entry))) (inTable (now (table .entry)) block) (block .count) ⌝ }
 {
     let mut k = 0;
     while k < out.len() {
-        out[k] = word(table, width, row, col, count, k);
+        out[k] = word(table, block, k);
         k += 1;
     }
 }
@@ -75,8 +73,8 @@ fn lay_circuit(table: &[u32], n: usize, selectors: &mut [u32], labels: &mut [u32
     ensures { λ _. ⌜ now (selectors .exit) ≡ padded (selectorsLength sheetRows) (selectorsIn (now (table .entry)) n) (selectorsLength n) ⌝ }
     ensures { λ _. ⌜ now (labels .exit) ≡ padded (labelsLength sheetRows) (labelsIn (now (table .entry)) n) (labelsLength n) ⌝ }
 {
-    lay(table, n, 1, 0, circuit::selectors_length(n), selectors);
-    lay(table, n, 1, 5, circuit::labels_length(n), labels);
+    lay(table, blocks::selectors(n), selectors);
+    lay(table, blocks::labels(n), labels);
 }
 
 // What the circuit is filled with: witness, public inputs and challenges.
@@ -90,12 +88,12 @@ fn lay_filling(
 )
     requires { ⌜ Full n l (now table) × (length (now witness) ≡ witnessLength sheetRows) × (length (now publics) ≡ sheetRows) × (length (now challenges) ≡ 4) ⌝ }
     ensures { λ _. ⌜ now (witness .exit) ≡ padded (witnessLength sheetRows) (witnessIn (now (table .entry)) n) (witnessLength n) ⌝ }
-    ensures { λ _. ⌜ now (publics .exit) ≡ padded sheetRows (publicsIn (now (table .entry)) n) l ⌝ }
+    ensures { λ _. ⌜ now (publics .exit) ≡ padded sheetRows (publicsIn (now (table .entry)) n l) l ⌝ }
     ensures { λ _. ⌜ now (challenges .exit) ≡ padded 4 (challengesIn (now (table .entry)) n l) 4 ⌝ }
 {
-    lay(table, n, n + 1, 0, circuit::witness_length(n), witness);
-    lay(table, n, n + n + 1, 0, l, publics);
-    lay(table, 1, n + n + l + 1, 0, 4, challenges);
+    lay(table, blocks::witness(n), witness);
+    lay(table, blocks::publics(n, l), publics);
+    lay(table, blocks::challenges(n, l), challenges);
 }
 
 // All five buffers.

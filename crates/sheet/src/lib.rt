@@ -7,6 +7,7 @@ ghost use lib.ListN.{length};
 ghost use Rattle.sheet.specs.Promises.{Reads};
 use field::Answer;
 
+mod blocks;
 mod first;
 mod laying;
 mod lines;

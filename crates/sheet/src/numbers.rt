@@ -3,6 +3,7 @@ ghost use mathlib.Core.Path.{_≡_};
 ghost use Rattle.field.specs.Reasons.{answerOf, firstAbove};
 ghost use Rattle.sheet.specs.Table.{Full, tableElements};
 ghost use Rattle.sheet.specs.Deciding.{tableCircuit, tableNumbers};
+use super::blocks;
 use super::laying;
 use field::Answer;
 
@@ -13,12 +14,11 @@ fn elements(p: u32, n: usize, l: usize, table: &[u32]) -> usize
     ensures { λ r. ⌜ r ≡ firstAbove p (tableElements n l (now (table .entry))) ⌝ }
 {
     let selectors = circuit::selectors_length(n);
-    let witness = circuit::witness_length(n);
-    let passed = selectors + witness;
-    let a = laying::above(p, table, n, 1, 0, selectors);
-    let b = laying::then_above(p, a, selectors, table, n, n + 1, 0, witness);
-    let c = laying::then_above(p, b, passed, table, n, n + n + 1, 0, l);
-    laying::then_above(p, c, passed + l, table, 1, n + n + l + 1, 0, 4)
+    let passed = selectors + circuit::witness_length(n);
+    let a = laying::above(p, table, blocks::selectors(n));
+    let b = laying::then_above(p, a, selectors, table, blocks::witness(n));
+    let c = laying::then_above(p, b, passed, table, blocks::publics(n, l));
+    laying::then_above(p, c, passed + l, table, blocks::challenges(n, l))
 }
 
 // The reasons of the circuit: labels and public rows.
@@ -27,7 +27,7 @@ fn decide_circuit(n: usize, l: usize, table: &[u32]) -> Answer
     ensures { λ r. ⌜ r ≡ answerOf (tableCircuit n l (now (table .entry))) ⌝ }
 {
     let labels = circuit::labels_length(n);
-    let place = laying::above(3 * (n as u32), table, n, 1, 5, labels);
+    let place = laying::above(3 * (n as u32), table, blocks::labels(n));
     let answer = field::decide_at(8, place, labels);
     let number = answer.number;
     if number != 0 {

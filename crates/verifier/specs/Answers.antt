@@ -27,13 +27,13 @@ use Rattle.field.specs.Primes.{field-prime}
 use Rattle.field.specs.Reasons.{answerOf, isAccepted}
 use Rattle.field.specs.declared.Answer.{Answer}
 use Rattle.transform.specs.Transform.{valueAt, evaluation, scratchLength}
-use Rattle.circuit.specs.Circuit.{Constraints, position, gate, Satisfies, lentConstraints, lentPublic, lentWitness, laidWitness}
+use Rattle.circuit.specs.Circuit.{Constraints, position, Satisfies, lentConstraints, lentPublic, lentWitness, laidWitness}
 use Rattle.circuit.specs.Witness.{lent-laid, laid-elements, lent-below}
 use Rattle.circuit.specs.Buffers.{witnessLength, quotientLength}
 use Rattle.circuit.specs.Reasons.{rowsReasons}
 use Rattle.circuit.specs.RightlyLent.{RightCircuit, rows-taken, point-taken}
-use Rattle.protocol.specs.Protocol.{RowVerdict, pass, fails, rowVerdict, rowN, rowD, zRows, prepared, transcript, proved, zeroFactor}
-use Rattle.protocol.specs.Rows.{RowHolds, passed-row, rows-pass}
+use Rattle.protocol.specs.Protocol.{RowVerdict, pass, fails, rowVerdict, zRows, prepared, transcript, proved, zeroFactor}
+use Rattle.protocol.specs.SameValues.{verdict-ext}
 use Rattle.protocol.specs.Demand3.{witnessOf, PassingPair, HoldingAlpha, AcceptedZeta, Demand3, demand-3}
 use Rattle.rowcheck.specs.declared.RowAnswer.{RowAnswer}
 use Rattle.rowcheck.specs.declared.Verdict.the-variants.{None, Pass}
@@ -103,32 +103,6 @@ pub record AnswersCounted (p n l : ℕ) (selectors labels publics : List ℕ) : 
       → PointChecks p n l publics (prepared p n (lentConstraints n selectors labels)) T (beta ∷ gamma ∷ alpha ∷ zeta ∷ []) scratch r scratch'
       → r .verdict ≡ judged.Accept)
 
--- THE SAME ROWS, THE SAME VERDICT
-
-module _ (p n : ℕ) (C : Constraints) (x v v' z z' : ℕ → ℕ) (beta gamma : ℕ) (same-v : (k : ℕ) → k < 3 * n → v k ≡ v' k) (same-z : (i : ℕ) → i < n → z i ≡ z' i) where
-  same-gate : (i : ℕ) → i < n → gate p n C x v i ≡ gate p n C x v' i
-  unfolding gate
-  same-gate i h = cc (same-v (position n 0 i) (omega arith), same-v (position n 1 i) (omega arith), same-v (position n 2 i) (omega arith))
-
-  same-N : (i : ℕ) → i < n → rowN p n v beta gamma i ≡ rowN p n v' beta gamma i
-  unfolding rowN
-  same-N i h = cc (same-v (position n 0 i) (omega arith), same-v (position n 1 i) (omega arith), same-v (position n 2 i) (omega arith))
-
-  same-D : (i : ℕ) → i < n → rowD p n C v beta gamma i ≡ rowD p n C v' beta gamma i
-  unfolding rowD
-  same-D i h = cc (same-v (position n 0 i) (omega arith), same-v (position n 1 i) (omega arith), same-v (position n 2 i) (omega arith))
-
-  same-row : (i : ℕ) → i < n → RowHolds p n C x v z beta gamma i → RowHolds p n C x v' z' beta gamma i
-  same-row i h r =
-      record {
-        gated = sym (same-gate i h) ∙ r .gated;
-        started = λ e. sym (same-z 0 (omega arith)) ∙ r .started e;
-        stepped = cc (same-z i h, same-z (suc i % n) (mod-lt (suc i) (omega arith)), same-N i h, same-D i h, r .stepped);
-      }
-
-  same-pass : rowVerdict p n C x v z beta gamma ≡ pass → rowVerdict p n C x v' z' beta gamma ≡ pass
-  same-pass e = rows-pass p n C x v' z' beta gamma (λ i h. same-row i h (passed-row p n C x v z beta gamma e i h))
-
 -- THE ANSWERS
 
 -- an answer that is a verdict of pass, and back
@@ -163,6 +137,13 @@ module _ (p n l : ℕ) (selectors labels publics : List ℕ) where
     abbrev lent : List ℕ
     lent = laidWitness n (witnessOf p n wire)
 
+    -- of the witness that is lent for these wires, and the lent values of z, the verdict is that of the wires and z
+    same-verdict : (z : List ℕ) (beta gamma : ℕ)
+        → rowVerdict p n (lentConstraints n selectors labels) (lentPublic publics) (lentWitness n (laidWitness n (witnessOf p n wire))) (lentZ (evaluation p n z)) beta gamma
+        ≡ rowVerdict p n (lentConstraints n selectors labels) (lentPublic publics) (witnessOf p n wire) (valueAt p n z) beta gamma
+    same-verdict z beta gamma =
+        verdict-ext p n C x (lentWitness n lent) (witnessOf p n wire) (lent-laid n (witnessOf p n wire)) beta gamma (lentZ (evaluation p n z)) (valueAt p n z) (lent-values p n z)
+
     passing : (pair : ℕ × ℕ) → RowsPass p n l selectors labels publics wire pair → PassingPair p n (lentConstraints n selectors labels) (lentPublic publics) wire pair
     passing pair h =
         record {
@@ -171,10 +152,7 @@ module _ (p n l : ℕ) (selectors labels publics : List ℕ) where
           z = h .z;
           z-elements = h .z-elements;
           z-passes =
-              same-pass p n C x (lentWitness n lent) (witnessOf p n wire) (lentZ (evaluation p n (h .z))) (valueAt p n (h .z)) (pair .0) (pair .1)
-              (lent-laid n (witnessOf p n wire))
-              (lent-values p n (h .z))
-              (pass-of (isAccepted (h .r .answer)) _ (sym (h .checks .verdict) ∙ h .passes));
+              sym (same-verdict (h .z) (pair .0) (pair .1)) ∙ pass-of (isAccepted (h .r .answer)) _ (sym (h .checks .verdict) ∙ h .passes);
         }
 
     accepted-zeta : (z t : List ℕ) (pair : ℕ × ℕ) (alpha zeta : ℕ) → PointAccepts p n l selectors labels publics wire z t pair alpha zeta
@@ -208,10 +186,7 @@ module _ (p n l : ℕ) (selectors labels publics : List ℕ) where
               (laid-elements n (witnessOf p n wire) (λ k u. mod-lt _ positive))
               (evaluation-elements p n positive (h .z))
               drawn)
-              (same-pass p n C x (witnessOf p n wire) (lentWitness n lent) (valueAt p n (h .z)) (lentZ values) (pair .0) (pair .1)
-              (λ k u. sym (lent-laid n (witnessOf p n wire) k u))
-              (λ i u. sym (lent-values p n (h .z) i u))
-              (h .z-passes));
+              (same-verdict (h .z) (pair .0) (pair .1) ∙ h .z-passes);
         }
 
 -- THE THEOREM

@@ -6,7 +6,8 @@ use borrow.Author.Tests.{not-true, not-false, eq-eqb, ne-eqb}
 use borrow.Author.Needs.{needs}
 use Rattle.circuit.specs.Buffers.{preparedLength, transcriptLength}
 use Rattle.circuit.specs.Promises.{anyRows}
-use Rattle.circuit.proofs.PartLaws.{any-rows, hands-none}
+use Rattle.circuit.specs.AnyRows.{any-rows}
+use Rattle.circuit.proofs.PartLaws.{hands-none}
 use Rattle.circuit.proofs.polynomial.Statement.{statement}
 use Rattle.circuit.proofs.polynomial.Tie as tie
 

@@ -29,11 +29,11 @@ unfolding firstAbove
 begins p f count = ap (λ (m : ℕ). first (high p f count) 0 m) (length-tab f count ∙ sym (sub-zero count))
 
 abbrev Inv-loop : tie.InvT-loop
-Inv-loop p table width row col count k₀ k =
-    (k ≤ count) × (firstAbove p (tab (inTable table width row col) count) ≡ first (high p (inTable table width row col) count) k (count - k))
+Inv-loop p table block count k₀ k =
+    (k ≤ count) × (firstAbove p (tab (inTable table block) count) ≡ first (high p (inTable table block) count) k (count - k))
 
 abbrev μ-loop : tie.MeasureT-loop
-μ-loop p table width row col count k₀ k = count - k
+μ-loop p table block count k₀ k = count - k
 
 loop-holds : tie.Need-loop-holds Inv-loop μ-loop
 loop-holds c = (search needs, begins _ _ _)

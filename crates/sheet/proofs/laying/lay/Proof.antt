@@ -15,11 +15,11 @@ use Rattle.sheet.proofs.laying.lay.Statement.{statement}
 use Rattle.sheet.proofs.laying.lay.Tie as tie
 
 abbrev Inv-loop : tie.InvT-loop
-Inv-loop table width row col count out₀ k₀ out k =
-    (k ≤ length out₀) × (out ≡ tab (λ j. cond (ltb j count) (inTable table width row col j) 0) k ++ drop k out₀) × (length out ≡ length out₀)
+Inv-loop table block out₀ k₀ out k =
+    (k ≤ length out₀) × (out ≡ tab (λ j. cond (ltb j (block .count)) (inTable table block j) 0) k ++ drop k out₀) × (length out ≡ length out₀)
 
 abbrev μ-loop : tie.MeasureT-loop
-μ-loop table width row col count out₀ k₀ out k = length out₀ - k
+μ-loop table block out₀ k₀ out k = length out₀ - k
 
 loop-holds : tie.Need-loop-holds Inv-loop μ-loop
 loop-holds c = (search needs, wrote-none _ _, search needs)

@@ -20,8 +20,8 @@ above-requires c κs = search needs
 add-result : tie.Need-add-result
 add-result c =
     let a = c .before .before .before .args in
-    let f = inTable (a .table .now) (a .width) (a .row) (a .col) in
-    omega (arith, c .above .ensures, firstAbove-le (a .p) (tab f (a .count)), length-tab f (a .count))
+    let f = inTable (a .table .now) (a .block) in
+    omega (arith, c .above .ensures, firstAbove-le (a .p) (tab f (a .block .count)), length-tab f (a .block .count))
 
 returns-2 : tie.Need-returns-2
 returns-2 c =

@@ -1,35 +1,36 @@
 -- `sheet::laying::word` meets its contract: the place lies within the table, as the block fits. Assumes nothing.
-use Prim.Native.Nat.{_+_, _*_, _/_, _%_, _<_}
+use Prim.Native.Nat.{_<_}
 use native.Mathlib.Omega.{arith}
 use lib.ListN.{length}
 use borrow.Author.Needs.{needs}
 use borrow.Author.Tests.{lt-ltb, le-ltb}
+use Rattle.sheet.specs.Table.{placeIn}
 use Rattle.sheet.proofs.laying.word.Statement.{statement}
 use Rattle.sheet.proofs.laying.word.Tie as tie
 
-inside : (c : tie.Then1) → let a = c .before .args in 8 * (a .row + a .k % a .width) + (a .col + a .k / a .width) < length (a .table .now)
-inside c = c .before .pre .within (c .before .args .k) (c .if1 .taken)
+inside : (c : tie.Then1) → placeIn (c .before .before .args .block) (c .before .before .args .k) < length (c .before .before .args .table .now)
+inside c = c .before .before .pre .within (c .before .before .args .k) (c .if1 .taken)
 
 rem-result : tie.Need-rem-result
-rem-result c = search needs
-
-add-result : tie.Need-add-result
-add-result c = omega (arith, inside c)
+rem-result c = c .before .before .pre .some
 
 mul-result : tie.Need-mul-result
 mul-result c = omega (arith, inside c)
 
+add-result : tie.Need-add-result
+add-result c = omega (arith, inside c)
+
 div-result : tie.Need-div-result
-div-result c = search needs
+div-result c = c .before .before .pre .some
+
+mul-result-2 : tie.Need-mul-result-2
+mul-result-2 c = omega (arith, inside c)
 
 add-result-2 : tie.Need-add-result-2
 add-result-2 c = omega (arith, inside c)
 
-add-result-3 : tie.Need-add-result-3
-add-result-3 c = omega (arith, inside c)
-
-mul-result-2 : tie.Need-mul-result-2
-mul-result-2 c = omega (arith, inside c)
+mul-result-3 : tie.Need-mul-result-3
+mul-result-3 c = omega (arith, inside c)
 
 shared-slice-read-result : tie.Need-shared-slice-read-result
 shared-slice-read-result c = omega (arith, inside (c .before))
@@ -45,12 +46,12 @@ word-spec =
     tie.close
     (tie.spec
     rem-result
-    add-result
     mul-result
+    add-result
     div-result
-    add-result-2
-    add-result-3
     mul-result-2
+    add-result-2
+    mul-result-3
     shared-slice-read-result
     returns
     returns-2)

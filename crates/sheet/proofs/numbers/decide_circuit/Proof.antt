@@ -10,7 +10,8 @@ use Rattle.field.specs.ReasonLaws.{refused-first, refused-later}
 use Rattle.circuit.specs.Circuit.{lentConstraints}
 use Rattle.circuit.specs.Buffers.{selectorsLength, labelsLength}
 use Rattle.circuit.specs.Reasons.{badLabel, badPublicRow}
-use Rattle.sheet.specs.Table.{selectorsIn, labelsIn}
+use Rattle.sheet.specs.declared.blocks.Block.{Block}
+use Rattle.sheet.specs.Table.{inTable, selectorsIn, labelsIn}
 use borrow.Author.Needs.{needs}
 use Rattle.sheet.proofs.BlockLaws.{labels-fit}
 use Rattle.sheet.specs.TableLaws.{unbound-table}
@@ -28,13 +29,13 @@ abbrev second : tie.Start → List Reason
 second s =
     badPublicRow (lentConstraints (s .args .n) (tab (selectorsIn (s .args .table .now) (s .args .n)) (selectorsLength (s .args .n))) (labelsOf s)) (s .args .l) ∷ []
 
-decided : (c : tie.After-decide-at) → c .decide-at .result ≡ answerOf (first (c .before .before .before .before))
+decided : (c : tie.After-decide-at) → c .decide-at .result ≡ answerOf (first (c .before .before .before .before .before))
 decided c =
-    let s = c .before .before .before .before in
+    let s = c .before .before .before .before .before in
     let t = s .args .table .now in
     let n = s .args .n in
-    let long = c .before .before .labels-length .ensures in
-    let at = c .before .above .ensures ∙ ap (λ (m : ℕ). firstAbove (3 * n) (tab (labelsIn t n) m)) long in
+    let long = c .before .before .before .labels-length .ensures in
+    let at = c .before .above .ensures ∙ ap (λ (B : Block). firstAbove (3 * n) (tab (inTable t B) (B .count))) (c .before .before .labels .ensures) in
     c .decide-at .ensures ∙ ap₂ (λ (at count : ℕ). answerOf (reasonAt 8 at count ∷ [])) at (long ∙ sym (length-tab (labelsIn t n) (labelsLength n)))
 
 labels-length-requires : tie.Need-labels-length-requires
@@ -46,20 +47,23 @@ cast-above c = search needs
 mul-above : tie.Need-mul-above
 mul-above c = search needs
 
+labels-requires : tie.Need-labels-requires
+labels-requires c κs = search needs
+
 above-requires : tie.Need-above-requires
-above-requires c κs = labels-fit _ _ _ (c .before .before .pre) (c .labels-length .ensures)
+above-requires c κs = labels-fit _ _ _ (c .before .before .before .pre) (c .labels .ensures)
 
 decide-at-requires : tie.Need-decide-at-requires
 decide-at-requires c κs = search needs
 
 returns : tie.Need-returns
 returns c =
-    let s = c .before .before .before .before .before in
+    let s = c .before .before .before .before .before .before in
     refused-first (first s) (second s) (omega arith, tt) _ (decided (c .before)) (c .if1 .taken)
 
 unbound-row-requires : tie.Need-unbound-row-requires
 unbound-row-requires c κs =
-    let full = c .before .before .before .before .before .pre in
+    let full = c .before .before .before .before .before .before .pre in
     record { short = omega (arith, full .long); near = omega arith; room = λ i h. omega (arith, full .few, full .publics, full .long) }
 
 decide-at-requires-2 : tie.Need-decide-at-requires-2
@@ -67,7 +71,7 @@ decide-at-requires-2 c κs = search needs
 
 returns-2 : tie.Need-returns-2
 returns-2 c =
-    let s = c .before .before .before .before .before .before .before in
+    let s = c .before .before .before .before .before .before .before .before in
     refused-later (first s) (second s) (omega arith, tt) _ _ (decided (c .before .before .before)) (c .before .before .if1 .left)
     (c .decide-at2 .ensures ∙ ap (λ (at : ℕ). answerOf (reasonAt 14 at (s .args .l) ∷ [])) (c .before .unbound-row .ensures ∙ unbound-table (s .args .n) (s .args .table .now) (s .args .l) (labelsOf s) (s .pre .publics)))
 
@@ -78,6 +82,7 @@ decide-circuit-spec =
     labels-length-requires
     cast-above
     mul-above
+    labels-requires
     above-requires
     decide-at-requires
     returns

@@ -8,7 +8,8 @@ use Rattle.algebra.specs.Lists.{tab}
 use Rattle.algebra.specs.Tables.{length-tab}
 use Rattle.field.specs.Reasons.{firstAbove}
 use Rattle.field.specs.ReasonLaws.{further}
-use Rattle.sheet.specs.Table.{selectorsIn, witnessIn, publicsIn, challengesIn}
+use Rattle.sheet.specs.declared.blocks.Block.{Block}
+use Rattle.sheet.specs.Table.{inTable}
 use borrow.Author.Needs.{needs}
 use Rattle.sheet.proofs.BlockLaws.{selectors-fit, witness-fit, publics-fit, challenges-fit}
 use Rattle.sheet.proofs.numbers.elements.Statement.{statement}
@@ -23,62 +24,65 @@ witness-length-requires c κs = search needs
 add-passed : tie.Need-add-passed
 add-passed c = search needs
 
+selectors-requires : tie.Need-selectors-requires
+selectors-requires c κs = search needs
+
 above-requires : tie.Need-above-requires
-above-requires c κs = selectors-fit _ _ _ (c .before .before .before .pre) (c .before .selectors-length .ensures)
+above-requires c κs = selectors-fit _ _ _ (c .before .before .before .before .pre) (c .selectors .ensures)
+
+witness-requires : tie.Need-witness-requires
+witness-requires c κs = search needs
+
+then-above-requires : tie.Need-then-above-requires
+then-above-requires c κs =
+    let pre = c .before .before .before .before .before .before .pre in
+    let block = c .witness .ensures in
+    (witness-fit _ _ _ pre block, omega (arith, pre .few, ap (λ (B : Block). B .count) block, c .before .before .before .before .selectors-length .ensures))
+
+publics-requires : tie.Need-publics-requires
+publics-requires c κs = search needs
+
+then-above-requires-2 : tie.Need-then-above-requires-2
+then-above-requires-2 c κs =
+    let pre = c .before .before .before .before .before .before .before .before .pre in
+    let block = c .publics .ensures in
+    (publics-fit _ _ _ pre block, omega (arith, pre .few, pre .publics, ap (λ (B : Block). B .count) block, c .before .before .before .before .before .witness-length .ensures, c .before .before .before .before .before .before .selectors-length .ensures))
 
 add-then-above : tie.Need-add-then-above
 add-then-above c = search needs
 
-then-above-requires : tie.Need-then-above-requires
-then-above-requires c κs =
-    let pre = c .before .before .before .before .pre in
-    (witness-fit _ _ _ pre (c .before .witness-length .ensures), omega (arith, pre .few, c .before .witness-length .ensures, c .before .before .selectors-length .ensures))
-
-add-then-above-2 : tie.Need-add-then-above-2
-add-then-above-2 c = search needs
-
-add-then-above-3 : tie.Need-add-then-above-3
-add-then-above-3 c = search needs
-
-then-above-requires-2 : tie.Need-then-above-requires-2
-then-above-requires-2 c κs =
-    let pre = c .before .before .before .before .before .pre in
-    (publics-fit _ _ _ pre, omega (arith, pre .few, pre .publics, c .before .before .witness-length .ensures, c .before .before .before .selectors-length .ensures))
-
-add-then-above-4 : tie.Need-add-then-above-4
-add-then-above-4 c = search needs
-
-add-then-above-5 : tie.Need-add-then-above-5
-add-then-above-5 c = search needs
-
-add-then-above-6 : tie.Need-add-then-above-6
-add-then-above-6 c = search needs
-
-add-then-above-7 : tie.Need-add-then-above-7
-add-then-above-7 c = search needs
+challenges-requires : tie.Need-challenges-requires
+challenges-requires c κs = search needs
 
 then-above-requires-3 : tie.Need-then-above-requires-3
 then-above-requires-3 c κs =
-    let pre = c .before .before .before .before .before .before .pre in
-    (challenges-fit _ _ _ pre, omega (arith, pre .few, pre .publics, c .before .before .before .witness-length .ensures, c .before .before .before .before .selectors-length .ensures))
+    let pre = c .before .before .before .before .before .before .before .before .before .before .pre in
+    let block = c .challenges .ensures in
+    (challenges-fit _ _ _ pre block, omega (arith, pre .few, pre .publics, ap (λ (B : Block). B .count) block, c .before .before .before .before .before .before .before .witness-length .ensures, c .before .before .before .before .before .before .before .before .selectors-length .ensures))
 
 returns : tie.Need-returns
 returns c =
-    let a = c .before .before .before .before .before .before .before .args in
+    let a = c .before .before .before .before .before .before .before .before .before .before .before .args in
     let t = a .table .now in
-    let s = c .before .before .before .before .before .selectors-length in
-    let w = c .before .before .before .before .witness-length in
-    let one = tab (selectorsIn t (a .n)) (s .result) in
-    let next = tab (witnessIn t (a .n)) (w .result) in
+    let s = c .before .before .before .before .before .before .before .before .before .selectors-length in
+    let w = c .before .before .before .before .before .before .before .before .witness-length in
+    let selectors = c .before .before .before .before .before .before .before .selectors in
+    let witness = c .before .before .before .before .before .witness in
+    let publics = c .before .before .before .publics in
+    let challenges = c .before .challenges in
+    let one = tab (inTable t (selectors .result)) (selectors .result .count) in
+    let next = tab (inTable t (witness .result)) (witness .result .count) in
     let two = one ++ next in
-    let three = two ++ tab (publicsIn t (a .n)) (a .l) in
-    let last = tab (challengesIn t (a .n) (a .l)) 4 in
-    let long-two : s .result + w .result ≡ length two = simp (length-append, length-tab) in
-    let long-three : s .result + w .result + a .l ≡ length three = simp (length-append, length-tab) in
-    let at-two = further (a .p) one next _ _ _ (c .before .before .before .above .ensures) (sym (length-tab _ _)) (c .before .before .then-above .ensures) in
-    let at-three = further (a .p) two (tab (publicsIn t (a .n)) (a .l)) _ _ _ at-two long-two (c .before .then-above2 .ensures) in
+    let inputs = tab (inTable t (publics .result)) (publics .result .count) in
+    let three = two ++ inputs in
+    let last = tab (inTable t (challenges .result)) (challenges .result .count) in
+    let long-one : s .result ≡ length one = s .ensures ∙ sym (length-tab _ _ ∙ rw (selectors .ensures)) in
+    let long-two : s .result + w .result ≡ length two = rw (s .ensures, w .ensures) (simp (length-append, length-tab) (rw (selectors .ensures, witness .ensures))) in
+    let long-three : s .result + w .result + a .l ≡ length three = rw (s .ensures, w .ensures) (simp (length-append, length-tab) (rw (selectors .ensures, witness .ensures, publics .ensures))) in
+    let at-two = further (a .p) one next _ _ _ (c .before .before .before .before .before .before .above .ensures) long-one (c .before .before .before .before .then-above .ensures) in
+    let at-three = further (a .p) two inputs _ _ _ at-two long-two (c .before .before .then-above2 .ensures) in
     further (a .p) three last _ _ _ at-three long-three (c .then-above3 .ensures)
-    ∙ ap (firstAbove (a .p)) (rw (← s .ensures, ← w .ensures) (simp append-assoc))
+    ∙ ap (firstAbove (a .p)) (rw (selectors .ensures, witness .ensures, publics .ensures, challenges .ensures) (simp append-assoc))
 
 pub elements-spec : {M : Type 1} → statement M
 elements-spec =
@@ -87,15 +91,13 @@ elements-spec =
     selectors-length-requires
     witness-length-requires
     add-passed
+    selectors-requires
     above-requires
-    add-then-above
+    witness-requires
     then-above-requires
-    add-then-above-2
-    add-then-above-3
+    publics-requires
     then-above-requires-2
-    add-then-above-4
-    add-then-above-5
-    add-then-above-6
-    add-then-above-7
+    add-then-above
+    challenges-requires
     then-above-requires-3
     returns)

@@ -1,16 +1,16 @@
--- `prover_circuits::generate::fill_contents` is safe and ends: the words are written in turn. Assumes nothing.
+-- `prover_circuits::generate::fill_values` is safe and ends: the words are written in turn. Assumes nothing.
 use mathlib.Core.Path.{_≡_}
 use Prim.Native.Nat.{_-_, _≤_}
 use lib.ListN.{length}
 use borrow.Author.Needs.{needs}
-use Rattle.prover_circuits.proofs.generate.fill_contents.Statement.{statement}
-use Rattle.prover_circuits.proofs.generate.fill_contents.Tie as tie
+use Rattle.prover_circuits.proofs.generate.fill_values.Statement.{statement}
+use Rattle.prover_circuits.proofs.generate.fill_values.Tie as tie
 
 abbrev Inv-loop : tie.InvT-loop
-Inv-loop p seed labels witness₀ i₀ i-end witness i = (i-end ≤ length witness₀) × (length witness ≡ length witness₀)
+Inv-loop p seed labels values₀ i₀ i-end values i = (i-end ≤ length values₀) × (length values ≡ length values₀)
 
 abbrev μ-loop : tie.MeasureT-loop
-μ-loop p seed labels witness₀ i₀ i-end witness i = i-end - i
+μ-loop p seed labels values₀ i₀ i-end values i = i-end - i
 
 loop-holds : tie.Need-loop-holds Inv-loop μ-loop
 loop-holds c = search needs
@@ -21,11 +21,11 @@ at-requires c κs = search needs
 value-requires : tie.Need-value-requires Inv-loop μ-loop
 value-requires c κs = search needs
 
-mul-witness : tie.Need-mul-witness Inv-loop μ-loop
-mul-witness c = search needs
+mul-values : tie.Need-mul-values Inv-loop μ-loop
+mul-values c = search needs
 
-slice-write-witness : tie.Need-slice-write-witness Inv-loop μ-loop
-slice-write-witness c = search needs
+slice-write-values : tie.Need-slice-write-values Inv-loop μ-loop
+slice-write-values c = search needs
 
 add-i : tie.Need-add-i Inv-loop μ-loop
 add-i c = search needs
@@ -42,8 +42,8 @@ same-length c = search needs
 returns : tie.Need-returns Inv-loop μ-loop
 returns c = search needs
 
-pub fill-contents-spec : {M : Type 1} → statement M
-fill-contents-spec =
+pub fill-values-spec : {M : Type 1} → statement M
+fill-values-spec =
     tie.close
     (tie.spec
     Inv-loop
@@ -51,8 +51,8 @@ fill-contents-spec =
     loop-holds
     at-requires
     value-requires
-    mul-witness
-    slice-write-witness
+    mul-values
+    slice-write-values
     add-i
     loop-less
     loop-again

@@ -1,0 +1,7 @@
+-- Definitions, then theorems.
+pub mod Transfer
+pub mod Columns
+pub mod Worked
+pub mod ThereAndBack
+pub mod AsBefore
+pub mod Theorem

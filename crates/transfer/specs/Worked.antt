@@ -1,0 +1,55 @@
+-- Document 01's worked sheet, as it was lent and as it is lent; and four rows, whose two layouts no transfer exchanges by itself.
+--
+-- columns, rows    the wire values of the sheet in both layouts
+-- twelve           the numbers 0 to 11
+-- Worked, worked   what the definitions make of them, and their answers; that they are so
+--
+-- Assumes nothing.
+use mathlib.Core.Path.{_≡_, refl}
+use mathlib.Core.List.{List, [], _∷_}
+use Prim.Native.Nat.{ℕ}
+use lib.Count.{ones}
+use Rattle.algebra.specs.Lists.{tab}
+use Rattle.algebra.specs.Modular.{first}
+use Rattle.field.specs.Fields.{isRows, greatestRows}
+use Rattle.field.specs.Reasons.{answerOf, firstOther}
+use Rattle.circuit.specs.Circuit.{lentWitness, laidWitness}
+use Rattle.circuit.specs.Promises.{anyRows}
+use Rattle.transfer.specs.Transfer.{toRows, toColumns, transferReasons}
+
+abbrev columns : List ℕ
+columns = 2 ∷ 6 ∷ 3 ∷ 6 ∷ 6 ∷ 12 ∷ []
+
+abbrev rows : List ℕ
+rows = 2 ∷ 3 ∷ 6 ∷ 6 ∷ 6 ∷ 12 ∷ []
+
+abbrev twelve : List ℕ
+twelve = 0 ∷ 1 ∷ 2 ∷ 3 ∷ 4 ∷ 5 ∷ 6 ∷ 7 ∷ 8 ∷ 9 ∷ 10 ∷ 11 ∷ []
+
+pub record Worked : Type 0 where
+  pub to-rows : toRows 2 columns ≡ rows
+  pub to-columns : toColumns 2 rows ≡ columns
+  -- place 1 has position 4 in rows, and place 3 in columns: of the two transfers neither is its own reverse
+  pub four-rows : toRows 4 twelve ≡ 0 ∷ 4 ∷ 8 ∷ 1 ∷ 5 ∷ 9 ∷ 2 ∷ 6 ∷ 10 ∷ 3 ∷ 7 ∷ 11 ∷ []
+  pub four-columns : toColumns 4 twelve ≡ 0 ∷ 3 ∷ 6 ∷ 9 ∷ 1 ∷ 4 ∷ 7 ∷ 10 ∷ 2 ∷ 5 ∷ 8 ∷ 11 ∷ []
+  pub taken : answerOf (transferReasons 2 columns rows) ≡ record { number = 0; detail = 0 }
+  -- 3 rows, and 1; a buffer too long, and then one too short
+  pub three-rows : answerOf (transferReasons 3 columns rows) ≡ record { number = 3; detail = 0 }
+  pub one-row : answerOf (transferReasons 1 columns rows) ≡ record { number = 3; detail = 0 }
+  pub lent-long : answerOf (transferReasons 2 twelve rows) ≡ record { number = 6; detail = 1 }
+  pub written-short : answerOf (transferReasons 4 twelve rows) ≡ record { number = 6; detail = 2 }
+
+pub worked : Worked
+unfolding tab first ones isRows greatestRows anyRows firstOther lentWitness laidWitness
+worked =
+    record {
+      to-rows = refl;
+      to-columns = refl;
+      four-rows = refl;
+      four-columns = refl;
+      taken = refl;
+      three-rows = refl;
+      one-row = refl;
+      lent-long = refl;
+      written-short = refl;
+    }
