@@ -10,7 +10,7 @@
 -- Assumes nothing.
 use mathlib.Core.Path.{_≡_, refl, ap, ap₂, _∙_}
 use mathlib.Core.Bool.{Bool, true, false, not, _&&_}
-use mathlib.Core.List.{List, [], _∷_}
+use mathlib.Core.List.{List}
 use mathlib.Core.Option.{Option, none, some, Option·map}
 use Prim.Native.Nat.{ℕ, zero, suc, _+_, _*_, _%_, _≤_, _<_}
 use native.Mathlib.Nat.{mod-lt}
@@ -22,11 +22,10 @@ use Rattle.algebra.specs.Polynomial.{coef}
 use Rattle.algebra.specs.Search.{first-ext}
 use Rattle.algebra.specs.Tables.{tab-ext, gathered-ext}
 use Rattle.field.specs.Fields.{tag}
-use Rattle.field.specs.Reasons.{Reason, reasonAt}
 use Rattle.transform.specs.Transform.{interpolation}
 use Rattle.transform.specs.Interpolation.{interpolation-ext}
 use Rattle.circuit.specs.Circuit.{Constraints, position, gate}
-use Rattle.protocol.specs.Protocol.{rowN, rowD, zRows, polyN, polyD, gatePart, stepPart, polyF, fOf, wiresOf, zOf, tOf, transcript, proved, quotient, RowVerdict, fails, gateIdentity, startIdentity, stepIdentity, rowAt, rowsFrom, rowVerdict, brokenGate, brokenCopy, zeroFactor, witnessReasons, tagged, lostGammas}
+use Rattle.protocol.specs.Protocol.{rowN, rowD, zRows, polyN, polyD, gatePart, stepPart, polyF, fOf, wiresOf, zOf, tOf, transcript, proved, RowVerdict, fails, gateIdentity, startIdentity, stepIdentity, rowAt, rowsFrom, rowVerdict, brokenGate, brokenCopy, zeroFactor, witnessReasons, tagged, lostGammas}
 use Rattle.protocol.specs.GrandProduct.{running-ext}
 
 -- the verdict of a row by its three tests

@@ -5,7 +5,7 @@
 -- RowsAsBefore r' r                   `check_rows`: the verdict
 -- ProofAsBefore r' t' s' r t s        `prove`: every word of the transcript and of the scratch
 -- CountAsBefore r' r                  `lost_gammas`: the count
--- ReadAsBefore s r' .. r ..           `read`, on one sheet: p, n, l and every word of the buffers, but for the witness, which is the one that it was, transferred
+-- ReadAsBefore r' .. r ..             `read`, on one sheet: p, n, l and every word of the buffers, but for the witness, which is the one that it was, transferred
 -- THE THEOREM
 -- rows-as-before, proof-as-before, count-as-before, read-as-before   for each call, whatever it is lent besides
 --
@@ -14,9 +14,8 @@
 use mathlib.Core.Path.{_≡_, refl, sym, ap, ap₂, _∙_}
 use mathlib.Core.Bool.{Bool, true, false, cond}
 use mathlib.Core.List.{List, [], _∷_, _++_}
-use mathlib.Core.Option.{Option, some}
-use Prim.Native.Nat.{ℕ, _*_, _-_, _<_}
-use native.Mathlib.Omega.{arith}
+use mathlib.Core.Option.{some}
+use Prim.Native.Nat.{ℕ, _*_, _-_}
 use lib.ListN.{length, getD, take, drop, replicate}
 use lib.Seq.{take-at, drop-at}
 use Rattle.algebra.specs.Lists.{tab}

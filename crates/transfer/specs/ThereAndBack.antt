@@ -7,13 +7,12 @@
 -- rows-below, columns-below   it has elements exactly where the other has
 --
 -- Assumes nothing.
-use mathlib.Core.Path.{_≡_, refl, sym, ap, _∙_}
+use mathlib.Core.Path.{_≡_, sym, ap, _∙_}
 use mathlib.Core.List.{List}
 use Prim.Native.Nat.{ℕ, _*_, _<_}
 use native.Mathlib.Omega.{arith}
 use lib.ListN.{length, getD}
 use Rattle.algebra.specs.Lists.{tab, All}
-use Rattle.algebra.specs.Polynomial.{Elements}
 use Rattle.algebra.specs.Tables.{length-tab, getD-tab, tab-ext, tab-getD, all-tab, all-getD}
 use Rattle.circuit.specs.Circuit.{lentWitness, laidWitness}
 use Rattle.circuit.specs.Buffers.{witnessLength}
