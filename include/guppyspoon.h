@@ -15,9 +15,9 @@
  * p is a prime: 17, 97 or 2013265921. 97 is retired: guppyspoon_prove, guppyspoon_deposit and guppyspoon_join take no new sheets in it (reason 16), and
  * every other call takes it as the other two, so that what is filed in it can be read, prepared, opened and checked. An element is a number below p. n is the number of rows, a power of two, from 2 to the greatest for its prime.
  * l is the number of public inputs, 0 to n. A row below l must be a public row: its qL is 1 and its other selectors are 0, so that its gate says that
- * a is the public input. Selectors stand column after column: qL of every row, then qR, and so on. The witness stands row by row: a, b, c of row 0, then of row 1,
- * and so on; a position, column * n + row, has its number at place 3 * row + column. (Up to a former version the witness stood column after column:
- * guppyspoon_to_rows and guppyspoon_to_columns take it from one to the other.) A polynomial is its coefficients, lowest first.
+ * a is the public input. Selectors and labels stand column after column: qL of every row, then qR, and so on. The witness stands row by row: a, b, c of
+ * row 0, then of row 1, and so on, so that the number of position column * n + row is at place 3 * row + column. (Before, it stood column after
+ * column: guppyspoon_to_rows and guppyspoon_to_columns take it from one layout to the other.) A polynomial is its coefficients, lowest first.
  * "Buffers" below are in the order in which reason 6 counts them, from 1; `answer` is not counted. Those marked "written" may hold anything
  * before the call. `scratch` is the call's working area and holds zeros after an accepted call.
  */

@@ -1,5 +1,5 @@
--- The transfer of a witness from the layout in which it was lent before request 8 of document 02, column after column, to that in which it is lent since, row by
--- row; and back. (01: the contents.) In the former layout the wire value of position k stands at place k.
+-- The transfer of a witness (document 01: the contents) from the layout in which it was lent before request 8 of document 02, column after column, to that in
+-- which it is lent since, row by row; and back. In the former layout the wire value of position k stands at place k.
 --
 -- toRows n columns     3n numbers that stand column after column, row by row
 -- toColumns n rows     3n numbers that stand row by row, column after column
