@@ -1,6 +1,5 @@
--- An answer as it was before, but for the detail of 7.
+-- An answer as it was before, but for the detail of 7 (AsBefore).
 --
--- AsBefore a b         the answers have one number, and one detail unless that is 7
 -- accepted-same        either both are accepted, or none
 -- as-behind            of two lists that begin with the same reasons
 -- as-elements          of two lists that go on with 7, for elements of which one list has one that is p or more exactly where the other has, and then are the same
@@ -20,11 +19,8 @@ use Rattle.field.specs.Reasons.{Reason, answerOf, isAccepted, firstAbove, badEl
 use Rattle.field.specs.ReasonLaws.{elements-of, elements-none}
 use Rattle.circuit.specs.Buffers.{witnessLength}
 use Rattle.transfer.specs.Transfer.{toRows}
+use Rattle.transfer.specs.Columns.{AsBefore}
 use Rattle.transfer.specs.ThereAndBack.{rows-below, columns-below}
-
-pub record AsBefore (a b : Answer) : Type 0 where
-  pub number : a .number ≡ b .number
-  pub detail : (a .number ≡ 7 → ⊥) → a .detail ≡ b .detail
 
 pub accepted-same : {a b : Answer} → AsBefore a b → isAccepted a ≡ isAccepted b
 accepted-same s = ap (λ (k : ℕ). eqb k 0) (s .number)

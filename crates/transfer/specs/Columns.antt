@@ -8,6 +8,7 @@
 -- columnsRead s n l       that witness
 -- columnsReasons          all reasons of `read`, the elements of 7 being counted as they were lent
 -- ReadsByColumns          the promise of `read`
+-- AsBefore a b            two answers have one number, and one detail unless the number is 7
 --
 -- Assumes nothing.
 use mathlib.Core.Path.{_≡_}
@@ -94,3 +95,9 @@ pub record ReadsByColumns (s selectors labels witness publics challenges : List 
   pub witness-laid : witness' ≡ cond (isAccepted (r .answer)) (padded (witnessLength sheetRows) (onColumns s (sheetN s) (sheetL s)) (witnessLength (sheetN s))) witness
   pub publics-laid : publics' ≡ cond (isAccepted (r .answer)) (padded sheetRows (onPublics s (sheetN s) (sheetL s)) (sheetL s)) publics
   pub challenges-laid : challenges' ≡ cond (isAccepted (r .answer)) (padded 4 (onChallenges s (sheetN s) (sheetL s)) 4) challenges
+
+-- THE COMPARISON
+
+pub record AsBefore (a b : Answer) : Type 0 where
+  pub number : a .number ≡ b .number
+  pub detail : (a .number ≡ 7 → ⊥) → a .detail ≡ b .detail

@@ -40,9 +40,9 @@ use Rattle.sheet.specs.declared.SheetAnswer.{SheetAnswer}
 use Rattle.sheet.specs.Sheet.{sheetRows, sheetP, sheetN, sheetL, onSelectors, onLabels, onWitness, onPublics, onChallenges, padded, firstReasons, lineReasons, sheetLengths}
 use Rattle.sheet.specs.Promises.{Reads}
 use Rattle.transfer.specs.Transfer.{toRows}
-use Rattle.transfer.specs.Columns.{columnWitness, ChecksRowsByColumns, ProvesByColumns, LosesGammasByColumns, onColumns, columnsRead, ReadsByColumns}
+use Rattle.transfer.specs.Columns.{columnWitness, ChecksRowsByColumns, ProvesByColumns, LosesGammasByColumns, onColumns, columnsRead, ReadsByColumns, AsBefore}
 use Rattle.transfer.specs.ThereAndBack.{rows-read, rows-long}
-use Rattle.transfer.specs.AsBefore.{AsBefore, accepted-same, as-transferred}
+use Rattle.transfer.specs.AsBefore.{accepted-same, as-transferred}
 
 -- THE STATEMENTS
 

@@ -1,6 +1,7 @@
 -- Document 01's worked sheet, as it was lent and as it is lent; and four rows, whose two layouts no transfer exchanges by itself.
 --
 -- columns, rows    the wire values of the sheet in both layouts
+-- highB            those in columns, with 17 at b of row 0
 -- twelve           the numbers 0 to 11
 -- Worked, worked   what the definitions make of them, and their answers; that they are so
 --
@@ -11,17 +12,25 @@ use Prim.Native.Nat.{ℕ}
 use lib.Count.{ones}
 use Rattle.algebra.specs.Lists.{tab}
 use Rattle.algebra.specs.Modular.{first}
-use Rattle.field.specs.Fields.{isRows, greatestRows}
-use Rattle.field.specs.Reasons.{answerOf, firstOther}
+use Rattle.field.specs.Fields.{isField, isRows, greatestRows}
+use Rattle.field.specs.Reasons.{answerOf, firstOther, firstAbove}
 use Rattle.circuit.specs.Circuit.{lentWitness, laidWitness}
 use Rattle.circuit.specs.Promises.{anyRows}
+use Rattle.losses.specs.Losses.{lostReasons}
+use Rattle.text.specs.Text.{isDigit, digitsEnd, valueOf, numberAt, fieldAt}
+use Rattle.sheet.specs.Sheet.{fieldsDue, lineAt, numberOf}
+use Rattle.sheet.specs.Worked.{bytes}
 use Rattle.transfer.specs.Transfer.{toRows, toColumns, transferReasons}
+use Rattle.transfer.specs.Columns.{columnWitness, columnsRead}
 
 abbrev columns : List ℕ
 columns = 2 ∷ 6 ∷ 3 ∷ 6 ∷ 6 ∷ 12 ∷ []
 
 abbrev rows : List ℕ
 rows = 2 ∷ 3 ∷ 6 ∷ 6 ∷ 6 ∷ 12 ∷ []
+
+abbrev highB : List ℕ
+highB = 2 ∷ 6 ∷ 17 ∷ 6 ∷ 6 ∷ 12 ∷ []
 
 abbrev twelve : List ℕ
 twelve = 0 ∷ 1 ∷ 2 ∷ 3 ∷ 4 ∷ 5 ∷ 6 ∷ 7 ∷ 8 ∷ 9 ∷ 10 ∷ 11 ∷ []
@@ -32,6 +41,12 @@ pub record Worked : Type 0 where
   -- place 1 has position 4 in rows, and place 3 in columns: of the two transfers neither is its own reverse
   pub four-rows : toRows 4 twelve ≡ 0 ∷ 4 ∷ 8 ∷ 1 ∷ 5 ∷ 9 ∷ 2 ∷ 6 ∷ 10 ∷ 3 ∷ 7 ∷ 11 ∷ []
   pub four-columns : toColumns 4 twelve ≡ 0 ∷ 3 ∷ 6 ∷ 9 ∷ 1 ∷ 4 ∷ 7 ∷ 10 ∷ 2 ∷ 5 ∷ 8 ∷ 11 ∷ []
+  -- what reading the sheet laid before, and what was read in it
+  pub read-before : columnsRead bytes 2 0 ≡ columns
+  pub held-before : tab (columnWitness 2 columns) 6 ≡ columns
+  -- b of row 0 is 17: 7 counted it third, and counts it second
+  pub seven-before : answerOf (lostReasons 17 2 highB (1 ∷ [])) ≡ record { number = 7; detail = 2 }
+  pub seven-now : answerOf (lostReasons 17 2 (toRows 2 highB) (1 ∷ [])) ≡ record { number = 7; detail = 1 }
   pub taken : answerOf (transferReasons 2 columns rows) ≡ record { number = 0; detail = 0 }
   -- 3 rows, and 1; a buffer too long, and then one too short
   pub three-rows : answerOf (transferReasons 3 columns rows) ≡ record { number = 3; detail = 0 }
@@ -40,13 +55,17 @@ pub record Worked : Type 0 where
   pub written-short : answerOf (transferReasons 4 twelve rows) ≡ record { number = 6; detail = 2 }
 
 pub worked : Worked
-unfolding tab first ones isRows greatestRows anyRows firstOther lentWitness laidWitness
+unfolding tab first ones isField isRows greatestRows anyRows firstOther firstAbove lentWitness laidWitness isDigit digitsEnd valueOf numberAt fieldAt fieldsDue lineAt numberOf
 worked =
     record {
       to-rows = refl;
       to-columns = refl;
       four-rows = refl;
       four-columns = refl;
+      read-before = refl;
+      held-before = refl;
+      seven-before = refl;
+      seven-now = refl;
       taken = refl;
       three-rows = refl;
       one-row = refl;
