@@ -275,7 +275,7 @@ void guppyspoon_read(const uint8_t *sheet, size_t sheet_length, uint32_t *select
 /* A witness that stands column after column (a of every row, then b, then c), row by row. The numbers may be any.
  *
  * Buffers: 1 columns, 3n; 2 rows, 3n, written.
- * Reasons: 3 (n is 2 to 1,024, a power of two), 6.
+ * Reasons: 3 (n is no power of two from 2 to 1,024), 6.
  * Answer: number, detail.
  */
 void guppyspoon_to_rows(uint32_t n, const uint32_t *columns, size_t columns_length, uint32_t *rows, size_t rows_length, uint32_t *answer,
@@ -284,7 +284,7 @@ void guppyspoon_to_rows(uint32_t n, const uint32_t *columns, size_t columns_leng
 /* A witness that stands row by row, column after column: the way back.
  *
  * Buffers: 1 rows, 3n; 2 columns, 3n, written.
- * Reasons: 3 (n is 2 to 1,024, a power of two), 6.
+ * Reasons: 3 (n is no power of two from 2 to 1,024), 6.
  * Answer: number, detail.
  */
 void guppyspoon_to_columns(uint32_t n, const uint32_t *rows, size_t rows_length, uint32_t *columns, size_t columns_length, uint32_t *answer,

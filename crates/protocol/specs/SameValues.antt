@@ -1,11 +1,9 @@
 -- The definitions see the wire values of the 3n positions only: where two witnesses agree there, all that is made of them is the same.
 --
--- gate-ext, N-ext, D-ext       of a row
--- verdict-ext                  the row check, which sees the n row values of z only
--- reasons-ext                  9, 10 and 11
--- wires-ext, F-ext             the wires, and F, which sees the three wires only
--- proved-ext                   the transcript that the prover lays
--- lost-ext                     how many gammas a beta loses
+-- lost-ext         how many gammas a beta loses
+-- reasons-ext      9, 10 and 11
+-- proved-ext       the transcript that the prover lays
+-- verdict-ext      the verdict of the row check, which sees the n row values of z only
 --
 -- Assumes nothing.
 use mathlib.Core.Path.{_≡_, refl, ap, ap₂, _∙_}
@@ -39,79 +37,80 @@ judged holds starts steps i later =
 by-tests : (i : ℕ) {a a' b b' c c' : Bool} {later later' : RowVerdict} → a ≡ a' → b ≡ b' → c ≡ c' → later ≡ later' → judged a b c i later ≡ judged a' b' c' i later'
 by-tests i p q r e = cc
 
-module _ (p n : ℕ) (C : Constraints) (x v v' : ℕ → ℕ) (same : (k : ℕ) → k < 3 * n → v k ≡ v' k) where
-  pub gate-ext : (i : ℕ) → i < n → gate p n C x v i ≡ gate p n C x v' i
-  unfolding gate
-  gate-ext i h = cc (same (position n 0 i) (omega arith), same (position n 1 i) (omega arith), same (position n 2 i) (omega arith))
+mapped : (f g : List ℕ → List ℕ) → ((z : List ℕ) → f z ≡ g z) → (o : Option (List ℕ)) → Option·map f o ≡ Option·map g o
+mapped f g h none = refl
+mapped f g h (some z) = ap {B = Option (List ℕ)} some (h z)
 
-  broken-gate : brokenGate p n C x v ≡ brokenGate p n C x v'
-  unfolding brokenGate
-  broken-gate = first-ext _ _ n (λ i h. ap (λ (g : ℕ). not (eqb g 0)) (gate-ext i h))
-
-  broken-copy : brokenCopy n C v ≡ brokenCopy n C v'
-  unfolding brokenCopy
-  broken-copy =
-      first-ext _ _ (3 * n)
-      (λ k h. ap (λ (j : ℕ). ltb j k) (first-ext _ _ k (λ j l. ap₂ (λ (a b : ℕ). eqb (C .label j) (C .label k) && not (eqb a b)) (same j (omega arith)) (same k h))))
-
-  pub wires-ext : (c : ℕ) → c < 3 → wiresOf p n v c ≡ wiresOf p n v' c
-  wires-ext c g = interpolation-ext p n _ _ (λ i h. same (position n c i) (omega (arith, run-room c 3 n g)))
-
-  pub F-ext : (z : List ℕ) (beta gamma alpha : ℕ) → fOf p n C x (wiresOf p n v) z beta gamma alpha ≡ fOf p n C x (wiresOf p n v') z beta gamma alpha
-  unfolding polyF gatePart stepPart polyN polyD
-  F-ext z beta gamma alpha = rw (wires-ext 0 (omega arith), wires-ext 1 (omega arith), wires-ext 2 (omega arith))
-
+module _ (p n : ℕ) (v v' : ℕ → ℕ) (same : (k : ℕ) → k < 3 * n → v k ≡ v' k) where
   pub lost-ext : (beta : ℕ) → lostGammas p n v beta ≡ lostGammas p n v' beta
   unfolding lostGammas tagged
   lost-ext beta = ap different (tab-ext _ _ (3 * n) (λ k h. ap (λ (a : ℕ). (a + beta * tag p n k) % p) (same k h)))
 
-  module _ (beta gamma : ℕ) where
-    pub N-ext : (i : ℕ) → i < n → rowN p n v beta gamma i ≡ rowN p n v' beta gamma i
-    unfolding rowN
-    N-ext i h = cc (same (position n 0 i) (omega arith), same (position n 1 i) (omega arith), same (position n 2 i) (omega arith))
+  wire : (c : ℕ) → c < 3 → wiresOf p n v c ≡ wiresOf p n v' c
+  wire c g = interpolation-ext p n _ _ (λ i h. same (position n c i) (omega (arith, run-room c 3 n g)))
 
-    pub D-ext : (i : ℕ) → i < n → rowD p n C v beta gamma i ≡ rowD p n C v' beta gamma i
+  over : (beta gamma i : ℕ) → i < n → rowN p n v beta gamma i ≡ rowN p n v' beta gamma i
+  unfolding rowN
+  over beta gamma i h = cc (same (position n 0 i) (omega arith), same (position n 1 i) (omega arith), same (position n 2 i) (omega arith))
+
+  module _ (C : Constraints) where
+    under : (beta gamma i : ℕ) → i < n → rowD p n C v beta gamma i ≡ rowD p n C v' beta gamma i
     unfolding rowD
-    D-ext i h = cc (same (position n 0 i) (omega arith), same (position n 1 i) (omega arith), same (position n 2 i) (omega arith))
+    under beta gamma i h = cc (same (position n 0 i) (omega arith), same (position n 1 i) (omega arith), same (position n 2 i) (omega arith))
 
-    zero-factor : zeroFactor p n C v beta gamma ≡ zeroFactor p n C v' beta gamma
+    broken-copy : brokenCopy n C v ≡ brokenCopy n C v'
+    unfolding brokenCopy
+    broken-copy =
+        first-ext _ _ (3 * n)
+        (λ k h. ap (λ (j : ℕ). ltb j k) (first-ext _ _ k (λ j l. ap₂ (λ (a b : ℕ). eqb (C .label j) (C .label k) && not (eqb a b)) (same j (omega arith)) (same k h))))
+
+    zero-factor : (beta gamma : ℕ) → zeroFactor p n C v beta gamma ≡ zeroFactor p n C v' beta gamma
     unfolding zeroFactor
-    zero-factor =
+    zero-factor beta gamma =
         first-ext _ _ n
         (λ i h. rw (same (position n 0 i) (omega arith), same (position n 1 i) (omega arith), same (position n 2 i) (omega arith)))
 
-    pub reasons-ext : witnessReasons p n C x v beta gamma ≡ witnessReasons p n C x v' beta gamma
-    reasons-ext = rw (broken-gate, broken-copy, zero-factor)
+    z-rows : (beta gamma : ℕ) → zRows p n C v beta gamma ≡ zRows p n C v' beta gamma
+    z-rows beta gamma = gathered-ext _ _ n (λ i h. running-ext p n _ _ _ _ (over beta gamma) (under beta gamma) i (omega arith))
 
-    z-rows : zRows p n C v beta gamma ≡ zRows p n C v' beta gamma
-    z-rows = gathered-ext _ _ n (λ i h. running-ext p n _ _ _ _ N-ext D-ext i (omega arith))
+    module _ (x : ℕ → ℕ) where
+      gated : (i : ℕ) → i < n → gate p n C x v i ≡ gate p n C x v' i
+      unfolding gate
+      gated i h = cc (same (position n 0 i) (omega arith), same (position n 1 i) (omega arith), same (position n 2 i) (omega arith))
 
-    mapped : (f g : List ℕ → List ℕ) → ((z : List ℕ) → f z ≡ g z) → (o : Option (List ℕ)) → Option·map f o ≡ Option·map g o
-    mapped f g h none = refl
-    mapped f g h (some z) = ap {B = Option (List ℕ)} some (h z)
+      broken-gate : brokenGate p n C x v ≡ brokenGate p n C x v'
+      unfolding brokenGate
+      broken-gate = first-ext _ _ n (λ i h. ap (λ (g : ℕ). not (eqb g 0)) (gated i h))
 
-    pub proved-ext : (alpha : ℕ) → proved p n C x v beta gamma alpha ≡ proved p n C x v' beta gamma alpha
-    proved-ext alpha =
-        mapped _ _ laid (zOf p n C v beta gamma)
-        ∙ ap (λ rows. Option·map (λ z. transcript (wiresOf p n v') z (tOf p n C x v' z beta gamma alpha)) (Option·map (λ r. interpolation p n (coef r)) rows)) z-rows
-      where
-        laid : (z : List ℕ) → transcript (wiresOf p n v) z (tOf p n C x v z beta gamma alpha) ≡ transcript (wiresOf p n v') z (tOf p n C x v' z beta gamma alpha)
-        laid z = rw (wires-ext 0 (omega arith), wires-ext 1 (omega arith), wires-ext 2 (omega arith), F-ext z beta gamma alpha)
+      pub reasons-ext : (beta gamma : ℕ) → witnessReasons p n C x v beta gamma ≡ witnessReasons p n C x v' beta gamma
+      reasons-ext beta gamma = rw (broken-gate, broken-copy, zero-factor beta gamma)
 
-    module _ (z z' : ℕ → ℕ) (same-z : (i : ℕ) → i < n → z i ≡ z' i) where
-      row : (i : ℕ) → i < n → (later later' : RowVerdict) → later ≡ later' → rowAt p n C x v z beta gamma i later ≡ rowAt p n C x v' z' beta gamma i later'
-      row i h later later' e =
-          let gates : eqb (gate p n C x v i) 0 ≡ eqb (gate p n C x v' i) 0 = cc (gate-ext i h) in
-          let starts : (eqb i 0 && not (eqb (z 0) 1)) ≡ (eqb i 0 && not (eqb (z' 0) 1)) = cc (same-z 0 (omega arith)) in
-          let steps : eqb (z i * rowN p n v beta gamma i % p) (z (suc i % n) * rowD p n C v beta gamma i % p)
-          ≡ eqb (z' i * rowN p n v' beta gamma i % p) (z' (suc i % n) * rowD p n C v' beta gamma i % p) =
-          cc (same-z i h, same-z (suc i % n) (mod-lt (suc i) (omega arith)), N-ext i h, D-ext i h) in
-          by-tests i gates starts steps e
+      whole : (z : List ℕ) (beta gamma alpha : ℕ) → fOf p n C x (wiresOf p n v) z beta gamma alpha ≡ fOf p n C x (wiresOf p n v') z beta gamma alpha
+      unfolding polyF gatePart stepPart polyN polyD
+      whole z beta gamma alpha = rw (wire 0 (omega arith), wire 1 (omega arith), wire 2 (omega arith))
 
-      rows-from : (i count : ℕ) → i + count ≤ n → rowsFrom p n C x v z beta gamma i count ≡ rowsFrom p n C x v' z' beta gamma i count
-      unfolding rowsFrom
-      rows-from i zero h = refl
-      rows-from i (suc count) h = row i (omega arith) _ _ (rows-from (suc i) count (omega arith))
+      pub proved-ext : (beta gamma alpha : ℕ) → proved p n C x v beta gamma alpha ≡ proved p n C x v' beta gamma alpha
+      proved-ext beta gamma alpha =
+          mapped _ _ laid (zOf p n C v beta gamma)
+          ∙ ap (λ rows. Option·map (λ z. transcript (wiresOf p n v') z (tOf p n C x v' z beta gamma alpha)) (Option·map (λ r. interpolation p n (coef r)) rows)) (z-rows beta gamma)
+        where
+          laid : (z : List ℕ) → transcript (wiresOf p n v) z (tOf p n C x v z beta gamma alpha) ≡ transcript (wiresOf p n v') z (tOf p n C x v' z beta gamma alpha)
+          laid z = rw (wire 0 (omega arith), wire 1 (omega arith), wire 2 (omega arith), whole z beta gamma alpha)
 
-      pub verdict-ext : rowVerdict p n C x v z beta gamma ≡ rowVerdict p n C x v' z' beta gamma
-      verdict-ext = rows-from 0 n (omega arith)
+      module _ (beta gamma : ℕ) (z z' : ℕ → ℕ) (same-z : (i : ℕ) → i < n → z i ≡ z' i) where
+        row : (i : ℕ) → i < n → (later later' : RowVerdict) → later ≡ later' → rowAt p n C x v z beta gamma i later ≡ rowAt p n C x v' z' beta gamma i later'
+        row i h later later' e =
+            let gates : eqb (gate p n C x v i) 0 ≡ eqb (gate p n C x v' i) 0 = cc (gated i h) in
+            let starts : (eqb i 0 && not (eqb (z 0) 1)) ≡ (eqb i 0 && not (eqb (z' 0) 1)) = cc (same-z 0 (omega arith)) in
+            let steps : eqb (z i * rowN p n v beta gamma i % p) (z (suc i % n) * rowD p n C v beta gamma i % p)
+            ≡ eqb (z' i * rowN p n v' beta gamma i % p) (z' (suc i % n) * rowD p n C v' beta gamma i % p) =
+            cc (same-z i h, same-z (suc i % n) (mod-lt (suc i) (omega arith)), over beta gamma i h, under beta gamma i h) in
+            by-tests i gates starts steps e
+
+        rows-from : (i count : ℕ) → i + count ≤ n → rowsFrom p n C x v z beta gamma i count ≡ rowsFrom p n C x v' z' beta gamma i count
+        unfolding rowsFrom
+        rows-from i zero h = refl
+        rows-from i (suc count) h = row i (omega arith) _ _ (rows-from (suc i) count (omega arith))
+
+        pub verdict-ext : rowVerdict p n C x v z beta gamma ≡ rowVerdict p n C x v' z' beta gamma
+        verdict-ext = rows-from 0 n (omega arith)

@@ -1,5 +1,5 @@
 -- What the calls promised as long as a witness was lent column after column, before request 8 of document 02. The theorem (Theorem) compares them with what
--- they promise now; nothing else rests on these definitions.
+-- they promise now; but for the worked cases, which check them, nothing else rests on these definitions.
 --
 -- columnWitness n w k     the wire value of position k in a witness that is lent column after column
 -- ChecksRowsByColumns, ProvesByColumns, LosesGammasByColumns   the promises of `check_rows`, `prove` and `lost_gammas`, lent such a witness; their lists of

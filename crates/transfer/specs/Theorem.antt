@@ -101,7 +101,7 @@ module _ (p n : ℕ) (columns : List ℕ) (long : length columns ≡ witnessLeng
           verdict =
               new .verdict
               ∙ ap₂ (λ b v. cond b (verdictOf v) None) (accepted-same answers)
-              (verdict-ext p n C (lentPublic publics) (lentWitness n rows) (columnWitness n columns) (rows-read n columns) beta gamma (lentZ z) (lentZ z) (λ i h. refl))
+              (verdict-ext p n (lentWitness n rows) (columnWitness n columns) (rows-read n columns) C (lentPublic publics) beta gamma (lentZ z) (lentZ z) (λ i h. refl))
               ∙ sym (old .verdict);
         }
       where
@@ -135,7 +135,7 @@ module _ (p n : ℕ) (columns : List ℕ) (long : length columns ≡ witnessLeng
         same-reasons : proveReasons p n l selectors labels (toRows n columns) publics transcript challenges scratch
             ≡ all (length columns) (witnessReasons p n (lentConstraints n selectors labels) (lentPublic publics) (columnWitness n columns) beta gamma)
         same-reasons =
-            ap₂ all same-long (reasons-ext p n C (lentPublic publics) (lentWitness n rows) (columnWitness n columns) (rows-read n columns) beta gamma)
+            ap₂ all same-long (reasons-ext p n (lentWitness n rows) (columnWitness n columns) (rows-read n columns) C (lentPublic publics) beta gamma)
 
         answers : AsBefore r' r
         answers =
@@ -147,7 +147,7 @@ module _ (p n : ℕ) (columns : List ℕ) (long : length columns ≡ witnessLeng
         laid =
             new .lays
             ∙ ap₂ (λ b o. cond b o (some transcript)) (accepted-same answers)
-            (proved-ext p n C (lentPublic publics) (lentWitness n rows) (columnWitness n columns) (rows-read n columns) beta gamma (getD challenges 2 0))
+            (proved-ext p n (lentWitness n rows) (columnWitness n columns) (rows-read n columns) C (lentPublic publics) beta gamma (getD challenges 2 0))
             ∙ sym (old .lays)
 
   pub count-as-before : (challenges : List ℕ) (r' r : Counted) → LosesGammas p n (toRows n columns) challenges r' → LosesGammasByColumns p n columns challenges r
@@ -158,7 +158,7 @@ module _ (p n : ℕ) (columns : List ℕ) (long : length columns ≡ witnessLeng
         count =
             new .count
             ∙ ap₂ (λ b k. cond b k 0) (accepted-same answers)
-            (lost-ext p n (lentConstraints n [] []) (lentPublic []) (lentWitness n rows) (columnWitness n columns) (rows-read n columns) (getD challenges 0 0))
+            (lost-ext p n (lentWitness n rows) (columnWitness n columns) (rows-read n columns) (getD challenges 0 0))
             ∙ sym (old .count);
       }
     where

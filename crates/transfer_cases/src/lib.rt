@@ -94,7 +94,7 @@ fn refused() {
     both(b"3 before 6", 3, &six, 13);
 }
 
-// Contents that stand column after column, row by row. What stands behind them is left out, and what they have no room for is 0.
+// Contents that stand column after column, row by row, with zeros behind.
 pub fn rows_of(n: u32, columns: &[u32]) -> [u32; 3072] {
     let mut xs = field::blank_3072();
     let a = buffers::within(columns, 3 * (n as usize));

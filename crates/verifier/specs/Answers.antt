@@ -142,7 +142,7 @@ module _ (p n l : ℕ) (selectors labels publics : List ℕ) where
         → rowVerdict p n (lentConstraints n selectors labels) (lentPublic publics) (lentWitness n (laidWitness n (witnessOf p n wire))) (lentZ (evaluation p n z)) beta gamma
         ≡ rowVerdict p n (lentConstraints n selectors labels) (lentPublic publics) (witnessOf p n wire) (valueAt p n z) beta gamma
     same-verdict z beta gamma =
-        verdict-ext p n C x (lentWitness n lent) (witnessOf p n wire) (lent-laid n (witnessOf p n wire)) beta gamma (lentZ (evaluation p n z)) (valueAt p n z) (lent-values p n z)
+        verdict-ext p n (lentWitness n lent) (witnessOf p n wire) (lent-laid n (witnessOf p n wire)) C x beta gamma (lentZ (evaluation p n z)) (valueAt p n z) (lent-values p n z)
 
     passing : (pair : ℕ × ℕ) → RowsPass p n l selectors labels publics wire pair → PassingPair p n (lentConstraints n selectors labels) (lentPublic publics) wire pair
     passing pair h =
