@@ -1,9 +1,15 @@
 -- The lent buffers: how many numbers each has for n rows, and where the polynomials stand in a prepared circuit and in a transcript.
 -- (The scratch's length, which the transforms have too, stands in the crate `transform`.)
 --
+-- COUNTS AND NUMBERS
+-- selectorCount                         the selectors of a row: qL, qR, qO, qM, qC
+-- preparedCount                         the polynomials of a prepared circuit: those of the selectors, then those of the wired tags, one for each column
+-- wiredNumber                           which of them is the first of the wired tags
+-- wireNumber, zNumber, tNumber          the numbers of the first wire, of z and of t, polynomials being asked for by number; those of a prepared circuit come first
+-- polynomialCount                       how many have a number: the numbers are those below it
 -- LENGTHS
 -- selectorsLength, labelsLength, witnessLength   of the selectors, the labels and the witness
--- preparedLength                        of a prepared circuit: eight polynomials of n coefficients
+-- preparedLength                        of a prepared circuit: its polynomials have n coefficients each
 -- wireLength, zLength, quotientLength   the coefficients of a wire, of z and of t
 -- transcriptLength                      of a transcript: 7n - 3 (`transcript-long` of Parts)
 -- openingLength                         the coefficients of an opening polynomial, one less than t has: 3n - 4 (`opening-long` of Parts)
@@ -13,19 +19,42 @@
 -- PARTS
 -- preparedPart n s l                    polynomial s of a prepared circuit
 -- wirePart n c l, zPart n l, tPart n l  the wire of column c, z and t of a transcript; t is what stands behind z
--- byNumber k pre wire z t none          what belongs to polynomial k, the polynomials being numbered 0 to 7 (prepared), 8 to 10 (wires), 11 (z), 12 (t)
+-- byNumber k pre wire z t none          what belongs to polynomial k
 --
 -- Assumes nothing.
 use mathlib.Core.Bool.{cond}
 use mathlib.Core.List.{List}
 use Prim.Native.Nat.{ℕ, _+_, _*_, _-_}
-use lib.Dec.{eqb, leb}
+use lib.Dec.{eqb, ltb}
 use lib.ListN.{take, drop}
+
+-- COUNTS AND NUMBERS
+
+abbrev pub selectorCount : ℕ
+selectorCount = 5
+
+abbrev pub preparedCount : ℕ
+preparedCount = 8
+
+abbrev pub wiredNumber : ℕ
+wiredNumber = 5
+
+abbrev pub wireNumber : ℕ
+wireNumber = 8
+
+abbrev pub zNumber : ℕ
+zNumber = 11
+
+abbrev pub tNumber : ℕ
+tNumber = 12
+
+abbrev pub polynomialCount : ℕ
+polynomialCount = 13
 
 -- LENGTHS
 
 abbrev pub selectorsLength : ℕ → ℕ
-selectorsLength n = 5 * n
+selectorsLength n = selectorCount * n
 
 abbrev pub labelsLength : ℕ → ℕ
 labelsLength n = 3 * n
@@ -34,7 +63,7 @@ abbrev pub witnessLength : ℕ → ℕ
 witnessLength n = 3 * n
 
 abbrev pub preparedLength : ℕ → ℕ
-preparedLength n = 8 * n
+preparedLength n = preparedCount * n
 
 abbrev pub wireLength : ℕ → ℕ
 wireLength n = n
@@ -80,4 +109,5 @@ abbrev pub tPart : ℕ → List ℕ → List ℕ
 tPart n l = drop (tStart n) l
 
 abbrev pub byNumber : {A : Type 0} (k : ℕ) (pre wire : ℕ → A) (z t none : A) → A
-byNumber k pre wire z t none = cond (leb k 7) (pre k) (cond (leb k 10) (wire (k - 8)) (cond (eqb k 11) z (cond (eqb k 12) t none)))
+byNumber k pre wire z t none =
+    cond (ltb k wireNumber) (pre k) (cond (ltb k zNumber) (wire (k - wireNumber)) (cond (eqb k zNumber) z (cond (eqb k tNumber) t none)))

@@ -2,7 +2,7 @@
 --
 -- transcript-long    a transcript has 7n - 3 numbers
 -- opening-long       an opening polynomial has 3n - 4 coefficients
--- prepared-room      polynomial s of a prepared circuit, s below 8, ends within it
+-- prepared-room      each polynomial of a prepared circuit ends within it
 -- wire-room          the wire of a column below 3 ends where z starts, or before
 -- length-prepared, length-wire, length-z   the coefficients of a part
 -- short-prepared, short-wire, short-z      they are no more, whatever the buffer
@@ -15,7 +15,7 @@ use native.Mathlib.Omega.{arith}
 use lib.ListN.{length, drop, length-take, length-drop}
 use lib.Seq.{length-take-le}
 use Rattle.algebra.specs.Ends.{run-room}
-use Rattle.circuit.specs.Buffers.{preparedLength, transcriptLength, openingLength, wireLength, zLength, preparedStart, wireStart, zStart, tStart, preparedPart, wirePart, zPart}
+use Rattle.circuit.specs.Buffers.{preparedCount, preparedLength, transcriptLength, openingLength, wireLength, zLength, preparedStart, wireStart, zStart, tStart, preparedPart, wirePart, zPart}
 
 pub transcript-long : (n : ℕ) → 1 ≤ n → transcriptLength n ≡ 7 * n - 3
 transcript-long n h = omega arith
@@ -23,14 +23,14 @@ transcript-long n h = omega arith
 pub opening-long : (n : ℕ) → openingLength n ≡ 3 * n - 4
 opening-long n = omega arith
 
-pub prepared-room : (n s : ℕ) → s < 8 → preparedStart n s + n ≤ preparedLength n
-prepared-room n s h = run-room s 8 n h
+pub prepared-room : (n s : ℕ) → s < preparedCount → preparedStart n s + n ≤ preparedLength n
+prepared-room n s h = run-room s preparedCount n h
 
 pub wire-room : (n c : ℕ) → c < 3 → wireStart n c + wireLength n ≤ zStart n
 wire-room n c h = run-room c 3 (wireLength n) h
 
 module _ (n : ℕ) (l : List ℕ) where
-  pub length-prepared : (s : ℕ) → s < 8 → preparedLength n ≤ length l → length (preparedPart n s l) ≡ n
+  pub length-prepared : (s : ℕ) → s < preparedCount → preparedLength n ≤ length l → length (preparedPart n s l) ≡ n
   length-prepared s h fits = length-take-le n (drop (preparedStart n s) l) (omega (arith, length-drop (preparedStart n s) l, prepared-room n s h))
 
   pub length-wire : (c : ℕ) → c < 3 → zStart n ≤ length l → length (wirePart n c l) ≡ wireLength n

@@ -6,7 +6,7 @@
 -- noPart transcript         the empty part at the transcript's start
 -- preparedPlace n s prepared               polynomial s of a lent prepared circuit
 -- wirePlace n c transcript, zPlace, tPlace the wire of column c, z and t of a lent transcript
--- numberedPart n k prepared transcript     polynomial k of lent buffers of the right lengths: 0 to 7 (prepared), 8 to 10 (wires), 11 (z), 12 (t)
+-- numberedPart n k prepared transcript     polynomial k of lent buffers of the right lengths
 -- polynomialPart n k prepared transcript   the same of any lent buffers: none where n or a length is wrong
 -- Hands P r                 what `polynomial` promises of the part r that it hands back: it has the numbers of P, and lies where they lie
 --

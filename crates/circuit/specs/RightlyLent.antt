@@ -32,7 +32,7 @@ use Rattle.transform.specs.Transform.{scratchLength}
 use Rattle.circuit.specs.Circuit.{Constraints, Circuit, position, isPublicRow, lentConstraints}
 use Rattle.circuit.specs.Positions.{by-position}
 use Rattle.circuit.specs.Ahead.{Labels}
-use Rattle.circuit.specs.Buffers.{selectorsLength, labelsLength, witnessLength, preparedLength, transcriptLength}
+use Rattle.circuit.specs.Buffers.{selectorCount, selectorsLength, labelsLength, witnessLength, preparedLength, transcriptLength}
 use Rattle.circuit.specs.Reasons.{unboundRow, numberReasons, prepareDue, prepareReasons, rowsDue, rowsReasons, pointDue, pointReasons}
 
 pub record RightCircuit (p n l : ℕ) (selectors labels : List ℕ) : Type 0 where
@@ -45,10 +45,10 @@ module _ {p n l : ℕ} {selectors labels : List ℕ} (R : RightCircuit p n l sel
   selectors-right =
       record {
         long = R .selectors-long;
-        below = all-of (λ (q : ℕ). q < p) selectors (λ k h. by-position 5 n (λ k. getD selectors k 0 < p) at k (omega (arith, R .selectors-long)));
+        below = all-of (λ (q : ℕ). q < p) selectors (λ k h. by-position selectorCount n (λ k. getD selectors k 0 < p) at k (omega (arith, R .selectors-long)));
       }
     where
-      at : (s i : ℕ) → s < 5 → i < n → getD selectors (position n s i) 0 < p
+      at : (s i : ℕ) → s < selectorCount → i < n → getD selectors (position n s i) 0 < p
       at zero i h k = R .circuit .selectors i k .0
       at (suc zero) i h k = R .circuit .selectors i k .1
       at (suc (suc zero)) i h k = R .circuit .selectors i k .2
@@ -86,8 +86,8 @@ pub circuit-of : {p n l : ℕ} {selectors labels : List ℕ} → l ≤ n → Ele
     → unboundRow (lentConstraints n selectors labels) l ≡ l → RightCircuit p n l selectors labels
 unfolding unboundRow
 circuit-of {p} {n} {l} {selectors} {labels} few e d u =
-    let at : (s i : ℕ) → s < 5 → i < n → getD selectors (position n s i) 0 < p =
-    λ s i h k. all-getD (λ (q : ℕ). q < p) selectors (e .below) (position n s i) (omega (arith, e .long, run-room s 5 n h)) in
+    let at : (s i : ℕ) → s < selectorCount → i < n → getD selectors (position n s i) 0 < p =
+    λ s i h k. all-getD (λ (q : ℕ). q < p) selectors (e .below) (position n s i) (omega (arith, e .long, run-room s selectorCount n h)) in
     record {
       selectors-long = e .long;
       labels-long = d .long;

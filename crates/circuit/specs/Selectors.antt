@@ -1,7 +1,7 @@
 -- Rows of selectors in a list of words: those of row i stand from word start + i × step on, `apart` from one another. Lent selectors, column after
 -- column, are such rows (0, 1, n), and so are the lines of a table.
 --
--- isPublicAt words apart at             the five words from `at` on, so far apart, are the selectors of a public row
+-- isPublicAt words apart at             the words from `at` on, so far apart, are the selectors of a public row
 -- unboundIn words start step apart l    the lowest row below l that is no public row; l where each is one
 -- Spaced words start step apart l       the words have room for the selectors of l rows
 -- unbound-same       where the rows are those of constraints, it is the row that 14 names
@@ -11,12 +11,13 @@
 use mathlib.Core.Path.{_≡_, ap}
 use mathlib.Core.Bool.{Bool, not}
 use mathlib.Core.List.{List}
-use Prim.Native.Nat.{ℕ, _+_, _*_, _≤_, _<_}
+use Prim.Native.Nat.{ℕ, _+_, _*_, _-_, _≤_, _<_}
 use native.Mathlib.Omega.{arith}
 use lib.ListN.{length, getD}
 use Rattle.algebra.specs.Modular.{first}
 use Rattle.algebra.specs.Search.{first-ext}
 use Rattle.circuit.specs.Circuit.{Constraints, position, isPublic, isPublicRow, lentConstraints}
+use Rattle.circuit.specs.Buffers.{selectorCount}
 use Rattle.circuit.specs.Reasons.{unboundRow}
 
 abbrev pub isPublicAt : List ℕ → ℕ → ℕ → Bool
@@ -29,7 +30,7 @@ unboundIn words start step apart l = first (λ i. not (isPublicAt words apart (s
 pub record Spaced (words : List ℕ) (start step apart l : ℕ) : Type 0 where
   pub short : length words ≤ 65536
   pub near : step ≤ 65536
-  pub room : (i : ℕ) → i < l → start + i * step + 4 * apart < length words
+  pub room : (i : ℕ) → i < l → start + i * step + (selectorCount - 1) * apart < length words
 
 pub unbound-same : (words : List ℕ) (start step apart l : ℕ) (C : Constraints)
     → ((i : ℕ) → i < l → isPublicAt words apart (start + i * step) ≡ isPublicRow C i) → unboundIn words start step apart l ≡ unboundRow C l

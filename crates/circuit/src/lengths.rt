@@ -1,13 +1,34 @@
 // How many numbers the lent buffers have for n rows, and where the polynomials start in them. (The scratch's length stands in `transform`.)
 ghost use mathlib.Core.Path.{_≡_};
 ghost use Prim.Native.Nat.{_<_};
-ghost use Rattle.circuit.specs.Buffers.{selectorsLength, labelsLength, witnessLength, preparedLength, wireLength, zLength, quotientLength, transcriptLength, openingLength, preparedStart, wireStart, zStart, tStart};
+ghost use Rattle.circuit.specs.Buffers.{preparedCount, selectorsLength, labelsLength, witnessLength, preparedLength, wireLength, zLength, quotientLength, transcriptLength, openingLength, preparedStart, wireStart, zStart, tStart};
+
+// The selectors of a row.
+pub const SELECTOR_COUNT: usize = 5;
+
+// The polynomials of a prepared circuit.
+pub const PREPARED_COUNT: usize = 8;
+
+// Which of them is the first of the wired tags.
+pub const WIRED_NUMBER: usize = 5;
+
+// The number of the first wire; the numbers below it are polynomials of a prepared circuit.
+pub const WIRE_NUMBER: u32 = 8;
+
+// The number of z.
+pub const Z_NUMBER: u32 = 11;
+
+// The number of t.
+pub const T_NUMBER: u32 = 12;
+
+// How many polynomials have a number: the numbers are those below it.
+pub const POLYNOMIAL_COUNT: usize = 13;
 
 pub fn selectors_length(n: usize) -> usize
     requires { ⌜ n < 4294967296 ⌝ }
     ensures { λ r. ⌜ r ≡ selectorsLength n ⌝ }
 {
-    5 * n
+    SELECTOR_COUNT * n
 }
 
 pub fn labels_length(n: usize) -> usize
@@ -28,7 +49,7 @@ pub fn prepared_length(n: usize) -> usize
     requires { ⌜ n < 4294967296 ⌝ }
     ensures { λ r. ⌜ r ≡ preparedLength n ⌝ }
 {
-    8 * n
+    PREPARED_COUNT * n
 }
 
 // The coefficients of a wire.
@@ -72,7 +93,7 @@ pub fn opening_length(n: usize) -> usize
 
 // Where polynomial s of a prepared circuit starts.
 pub fn prepared_start(n: usize, s: usize) -> usize
-    requires { ⌜ (n < 4294967296) × (s < 8) ⌝ }
+    requires { ⌜ (n < 4294967296) × (s < preparedCount) ⌝ }
     ensures { λ r. ⌜ r ≡ preparedStart n s ⌝ }
 {
     s * n

@@ -19,6 +19,10 @@ mod witness;
 
 pub use copies::fill_permutation;
 pub use copies::lowest;
+pub use lengths::PREPARED_COUNT;
+pub use lengths::POLYNOMIAL_COUNT;
+pub use lengths::SELECTOR_COUNT;
+pub use lengths::WIRED_NUMBER;
 pub use lengths::labels_length;
 pub use lengths::opening_length;
 pub use lengths::prepared_length;
@@ -26,7 +30,9 @@ pub use lengths::quotient_length;
 pub use lengths::selectors_length;
 pub use lengths::t_start;
 pub use lengths::transcript_length;
+pub use lengths::wire_length;
 pub use lengths::witness_length;
+pub use lengths::z_length;
 pub use lengths::z_start;
 pub use parts::any_rows;
 pub use parts::prepared_part;
@@ -70,7 +76,7 @@ pub fn permutation(p: u32, n: u32, labels: &[u32], positions: &mut [u32]) -> Ans
     answer
 }
 
-// Polynomial `number` of the lent buffers: 0 to 7 of the prepared circuit, 8 to 10 (wires), 11 (z) and 12 (t) of the transcript. The empty part
+// Polynomial `number` of the lent buffers: those of the prepared circuit come first, then the wires, z and t of the transcript. The empty part
 // at the transcript's start stands for any other number, and where n or a length is wrong.
 pub fn polynomial<'a>(n: u32, number: u32, prepared: &'a [u32], transcript: &'a [u32]) -> &'a [u32]
     ensures { λ r. ⌜ Hands (polynomialPart n number (prepared .entry) (transcript .entry)) r ⌝ }

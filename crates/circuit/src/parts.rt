@@ -2,9 +2,12 @@
 ghost use mathlib.Core.Path.{_≡_};
 ghost use Prim.Native.Nat.{_-_, _≤_, _<_};
 ghost use lib.ListN.{length};
-ghost use Rattle.circuit.specs.Buffers.{preparedLength, wireLength, zLength, tStart, tPart, transcriptLength};
+ghost use Rattle.circuit.specs.Buffers.{preparedCount, preparedLength, wireLength, zLength, tStart, tPart, transcriptLength};
 ghost use Rattle.circuit.specs.Promises.{anyRows, preparedPlace, wirePlace, zPlace, numberedPart, Hands};
 use super::lengths;
+use super::lengths::T_NUMBER;
+use super::lengths::WIRE_NUMBER;
+use super::lengths::Z_NUMBER;
 
 // n is a number of rows that one of the three primes has.
 pub fn any_rows(n: u32) -> bool
@@ -15,7 +18,7 @@ pub fn any_rows(n: u32) -> bool
 
 // Polynomial s of a prepared circuit.
 pub fn prepared_part(n: usize, s: usize, prepared: &[u32]) -> &[u32]
-    requires { ⌜ (n ≤ 1024) × (s < 8) × (preparedLength n ≤ length (now prepared)) ⌝ }
+    requires { ⌜ (n ≤ 1024) × (s < preparedCount) × (preparedLength n ≤ length (now prepared)) ⌝ }
     ensures { λ r. ⌜ Hands (preparedPlace n s (prepared .entry)) r ⌝ }
     ensures { λ r. ⌜ length (now r) ≡ n ⌝ }
 {
@@ -62,11 +65,17 @@ pub fn part<'a>(n: usize, number: u32, prepared: &'a [u32], transcript: &'a [u32
     requires { ⌜ (length (now prepared) ≡ preparedLength n) × (length (now transcript) ≡ transcriptLength n) ⌝ }
     ensures { λ r. ⌜ Hands (numberedPart n number (prepared .entry) (transcript .entry)) r ⌝ }
 {
-    match number {
-        0..=7 => prepared_part(n, number as usize, prepared),
-        8..=10 => wire_part(n, (number - 8) as usize, transcript),
-        11 => z_part(n, transcript),
-        12 => t_part(n, transcript),
-        _ => &transcript[..0],
+    if number < WIRE_NUMBER {
+        return prepared_part(n, number as usize, prepared);
     }
+    if number < Z_NUMBER {
+        return wire_part(n, (number - WIRE_NUMBER) as usize, transcript);
+    }
+    if number == Z_NUMBER {
+        return z_part(n, transcript);
+    }
+    if number == T_NUMBER {
+        return t_part(n, transcript);
+    }
+    &transcript[..0]
 }

@@ -1,8 +1,9 @@
 // Public rows among rows of selectors, which are lent column after column, or stand line after line in a table.
 ghost use mathlib.Core.Path.{_≡_};
-ghost use Prim.Native.Nat.{_+_, _*_, _<_, _≤_};
+ghost use Prim.Native.Nat.{_+_, _*_, _-_, _<_, _≤_};
 ghost use lib.ListN.{length};
 ghost use Rattle.circuit.specs.Circuit.{isPublic};
+ghost use Rattle.circuit.specs.Buffers.{selectorCount};
 ghost use Rattle.circuit.specs.Selectors.{isPublicAt, unboundIn, Spaced};
 
 // Whether these are the selectors of a public row: qL is 1, and the others are 0.
@@ -24,9 +25,9 @@ fn is_public(ql: u32, qr: u32, qo: u32, qm: u32, qc: u32) -> bool
     qc == 0
 }
 
-// Whether the five words from `at` on, which stand `apart` from one another, are the selectors of a public row.
+// Whether the words from `at` on, which stand `apart` from one another, are the selectors of a public row.
 fn is_public_at(words: &[u32], apart: usize, at: usize) -> bool
-    requires { ⌜ (length (now words) ≤ 65536) × (at + 4 * apart < length (now words)) ⌝ }
+    requires { ⌜ (length (now words) ≤ 65536) × (at + (selectorCount - 1) * apart < length (now words)) ⌝ }
     ensures { λ r. ⌜ r ≡ isPublicAt (now (words .entry)) apart at ⌝ }
 {
     is_public(

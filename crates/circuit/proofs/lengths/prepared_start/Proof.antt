@@ -2,11 +2,12 @@
 use native.Mathlib.Omega.{arith}
 use Rattle.algebra.specs.Ends.{run-room}
 use borrow.Author.Needs.{needs}
+use Rattle.circuit.specs.Buffers.{preparedCount}
 use Rattle.circuit.proofs.lengths.prepared_start.Statement.{statement}
 use Rattle.circuit.proofs.lengths.prepared_start.Tie as tie
 
 mul-result : tie.Need-mul-result
-mul-result c = omega (arith, run-room (c .args .s) 8 (c .args .n) (omega arith))
+mul-result c = omega (arith, run-room (c .args .s) preparedCount (c .args .n) (omega arith))
 
 returns : tie.Need-returns
 returns c = search needs
