@@ -19,8 +19,8 @@ mod witness;
 
 pub use copies::fill_permutation;
 pub use copies::lowest;
-pub use lengths::PREPARED_COUNT;
 pub use lengths::POLYNOMIAL_COUNT;
+pub use lengths::PREPARED_COUNT;
 pub use lengths::SELECTOR_COUNT;
 pub use lengths::WIRED_NUMBER;
 pub use lengths::labels_length;
