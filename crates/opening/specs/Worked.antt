@@ -19,6 +19,7 @@ use Rattle.algebra.specs.Polynomial.{reduced}
 use Rattle.field.specs.Fields.{isField, isRows, greatestRows, generator, root, point, multiplier, tag}
 use Rattle.field.specs.Reasons.{answerOf, firstOther, firstAbove}
 use Rattle.transform.specs.Transform.{interpolation}
+use Rattle.transform.specs.Parts.{laid}
 use Rattle.circuit.specs.Circuit.{permutation}
 use Rattle.protocol.specs.Protocol.{accept, reject}
 use Rattle.protocol.specs.Protocol as protocol
@@ -80,5 +81,5 @@ table =
     ∷ []
 
 pub worked : All (λ r. r .is ≡ r .should) table
-unfolding tab powF first inverse reduced isField isRows greatestRows generator root point multiplier tag firstOther firstAbove interpolation permutation protocol.prepared polynomialOf evaluationsOf mixtureOf openingOf openingVerdict ones
+unfolding tab powF first inverse reduced isField isRows greatestRows generator root point multiplier tag firstOther firstAbove interpolation permutation laid protocol.prepared polynomialOf evaluationsOf mixtureOf openingOf openingVerdict ones
 worked = refl & refl & refl & refl & refl & refl & refl & refl & refl & refl & refl & refl & refl & refl & refl & refl & refl & refl & refl & refl & refl & refl & refl & tt

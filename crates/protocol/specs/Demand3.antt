@@ -32,7 +32,7 @@ use Rattle.field.specs.Domain.{Domain, domain}
 use Rattle.transform.specs.Interpolation.{rows-positive}
 use Rattle.transform.specs.Transform.{valueAt}
 use Rattle.circuit.specs.Circuit.{Constraints, Circuit, position, Satisfies}
-use Rattle.circuit.specs.Buffers.{preparedLength, quotientLength, transcriptLength}
+use Rattle.circuit.specs.Buffers.{preparedLength, wireLength, zLength, quotientLength, transcriptLength}
 use Rattle.circuit.specs.Positions.{position-column, position-row}
 use Rattle.circuit.specs.PublicBound.{public-bound}
 use Rattle.protocol.specs.Protocol.{fOf, prepared, wiresOf, zOf, tOf, transcript, proved, pass, rowVerdict, accept, pointVerdict, zeroFactor, lostGammas, lostPairs}
@@ -58,10 +58,10 @@ module _ (p n : ℕ) (C : Constraints) (x : ℕ → ℕ) (wire : ℕ → List �
     pub beta-element : pair .0 < p
     pub gamma-element : pair .1 < p
     pub z : List ℕ
-    pub z-elements : Elements p n z
+    pub z-elements : Elements p (zLength n) z
     pub z-passes : rowVerdict p n C x (witnessOf p n wire) (valueAt p n z) (pair .0) (pair .1) ≡ pass
 
-  -- F = t × (X^n - 1) in every coefficient, for a t of 3n - 3 elements
+  -- F = t × (X^n - 1) in every coefficient, for a t of as many elements as it has
   pub record HoldingAlpha (z : List ℕ) (pair : ℕ × ℕ) (alpha : ℕ) : Type 0 where
     pub alpha-element : alpha < p
     pub t : List ℕ
@@ -77,9 +77,9 @@ module _ (p n : ℕ) (C : Constraints) (x : ℕ → ℕ) (wire : ℕ → List �
     -- the witness breaks a gate or gives one variable two values: at most (3n - 1) × p pairs let some z pass
     pub pairs : (Satisfies p n C x (witnessOf p n wire) → ⊥) → AtMost ((3 * n - 1) * p) PassingPair
     -- any of the other pairs, and any z: at most 2 alphas let some quotient hold
-    pub alphas : (pair : ℕ × ℕ) → pair .0 < p → pair .1 < p → (PassingPair pair → ⊥) → (z : List ℕ) → Elements p n z → AtMost 2 (HoldingAlpha z pair)
+    pub alphas : (pair : ℕ × ℕ) → pair .0 < p → pair .1 < p → (PassingPair pair → ⊥) → (z : List ℕ) → Elements p (zLength n) z → AtMost 2 (HoldingAlpha z pair)
     -- any of the other alphas, and any t: at most 4n - 4 zetas are accepted
-    pub zetas : (pair : ℕ × ℕ) (alpha : ℕ) → alpha < p → (z : List ℕ) → Elements p n z → (HoldingAlpha z pair alpha → ⊥)
+    pub zetas : (pair : ℕ × ℕ) (alpha : ℕ) → alpha < p → (z : List ℕ) → Elements p (zLength n) z → (HoldingAlpha z pair alpha → ⊥)
         → (t : List ℕ) → Elements p (quotientLength n) t → AtMost (4 * n - 4) (AcceptedZeta z t pair alpha)
 
 -- an honest witness
@@ -109,15 +109,15 @@ pub record ZeroPair (p n : ℕ) (C : Constraints) (v : ℕ → ℕ) (pair : ℕ 
 pub record Demand3 (p n l : ℕ) (C : Constraints) : Type 0 where
   -- a witness of elements that satisfies the circuit has the public input x(i) at a(i), in every row i below l
   pub binding : (x v : ℕ → ℕ) → Satisfies p n C x v → (i : ℕ) → i < l → x i < p → v (position n 0 i) < p → v (position n 0 i) ≡ x i
-  -- three wires of n elements
-  pub soundness : (x : ℕ → ℕ) (wire : ℕ → List ℕ) → ((c : ℕ) → c < 3 → Elements p n (wire c)) → Sound p n C x wire
+  -- three wires of as many elements as a wire has
+  pub soundness : (x : ℕ → ℕ) (wire : ℕ → List ℕ) → ((c : ℕ) → c < 3 → Elements p (wireLength n) (wire c)) → Sound p n C x wire
   -- a witness that satisfies the circuit, and no zero factor of any D(i)
   pub completeness : (x v : ℕ → ℕ) → Satisfies p n C x v → (beta gamma : ℕ) → zeroFactor p n C v beta gamma ≡ n → Complete p n C x v beta gamma
   -- a witness that satisfies the circuit: with each beta, the gammas that meet a zero factor are exactly as many as there are different numbers among
   -- wire value + beta × tag; and the pairs that do are as many as the sum of these counts over all beta
   pub lost-gammas : (x v : ℕ → ℕ) → Satisfies p n C x v → (beta : ℕ) → beta < p → Exactly (lostGammas p n v beta) (λ gamma. ZeroPair p n C v (beta, gamma))
   pub lost-pairs : (x v : ℕ → ℕ) → Satisfies p n C x v → Exactly (lostPairs p n v) (ZeroPair p n C v)
-  -- preparing writes 8n elements, the prover lays 7n - 3
+  -- preparing writes elements, and so does the prover, each as many as are due
   pub prepared-long : Elements p (preparedLength n) (prepared p n C)
   pub proved-long : (x v : ℕ → ℕ) (beta gamma alpha : ℕ) (T : List ℕ) → proved p n C x v beta gamma alpha ≡ some T → Elements p (transcriptLength n) T
 
@@ -135,7 +135,7 @@ module _ (q n : ℕ) (D : Domain (suc q) n) where
     witness-fit c i h l =
         cong (ap₂ (λ (a b : ℕ). eval (wire a) (point p n b)) (sym (position-column n c i l)) (sym (position-row n c i l))) ⨾ back cong-mod
 
-    sound : ((c : ℕ) → c < 3 → Elements (suc q) n (wire c)) → Sound (suc q) n C x wire
+    sound : ((c : ℕ) → c < 3 → Elements (suc q) (wireLength n) (wire c)) → Sound (suc q) n C x wire
     sound elements =
         record {
           pairs = λ broken.

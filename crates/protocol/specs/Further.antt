@@ -31,6 +31,7 @@ use Rattle.algebra.specs.Polynomial.{coef, quotientVanishing, reduced}
 use Rattle.field.specs.Fields.{generator, root, point, multiplier, tag}
 use Rattle.field.specs.Primes.{prime-2013265921}
 use Rattle.transform.specs.Transform.{interpolation}
+use Rattle.transform.specs.Parts.{laid}
 use Rattle.circuit.specs.Circuit.{Constraints, lentConstraints, lentWitness, lentPublic, permutation, gate}
 use Rattle.circuit.specs.Reasons.{unboundRow}
 use Rattle.protocol.specs.Protocol.{nextZ, runningZ, rowN, rowD, rowZ, zRows, polyN, polyD, polyL, gatePart, stepPart, startPart, polyF, quotient, prepared, wiresOf, zOf, proved, RowVerdict, pass, fails, gateIdentity, startIdentity, stepIdentity, rowsFrom, rowAt, rowVerdict, PointVerdict, accept, reject, pointF, pointVerdict, brokenGate, brokenCopy, zeroFactor}
@@ -264,7 +265,7 @@ table =
     ∷ []
 
 right : All (λ r. r .is ≡ r .should) table
-unfolding unboundRow tab gathered powF first inverse quotientVanishing reduced generator root point multiplier tag interpolation lentWitness permutation gate rowN rowD runningZ polyN polyD polyL gatePart stepPart startPart polyF quotient prepared rowsFrom pointVerdict brokenGate brokenCopy zeroFactor
+unfolding unboundRow tab gathered powF first inverse quotientVanishing reduced generator root point multiplier tag interpolation lentWitness permutation gate rowN rowD runningZ polyN polyD polyL gatePart stepPart startPart polyF quotient laid prepared rowsFrom pointVerdict brokenGate brokenCopy zeroFactor
 right = refl & refl & refl & refl & refl & refl & refl & refl & refl & refl & refl & refl & refl & refl & refl & refl & refl & refl & refl & refl & refl & refl & tt
 
 -- THE CASES OF THE LARGEST PRIME
@@ -358,7 +359,7 @@ unfolding tab powF generator point interpolation
 z-largest = rw (inverse-4, interpolation, root-4)
 
 largest-right : All (λ r. r .is ≡ r .should) largestTable
-unfolding unboundRow tab gathered powF first quotientVanishing reduced generator point multiplier tag interpolation lentWitness permutation gate rowN rowD runningZ polyN polyD polyL gatePart stepPart startPart polyF quotient prepared rowsFrom pointVerdict brokenGate brokenCopy zeroFactor
+unfolding unboundRow tab gathered powF first quotientVanishing reduced generator point multiplier tag interpolation lentWitness permutation gate rowN rowD runningZ polyN polyD polyL gatePart stepPart startPart polyF quotient laid prepared rowsFrom pointVerdict brokenGate brokenCopy zeroFactor
 largest-right =
     (rw root-4)
     & refl

@@ -1,14 +1,14 @@
 -- The layout of the prepared circuit and of the transcript: their parts, and that they are elements.
 --
--- prepared-part           part s of the prepared circuit is polynomial s, for s below 8
--- prepared-elements       the prepared circuit is 8n elements
+-- prepared-part           part s of the prepared circuit is polynomial s, for each of its polynomials
+-- prepared-elements       the prepared circuit has the length that is due, and is elements
 -- wire-part, z-part, t-part   the parts of a transcript
--- proved-elements         the transcript that the prover lays is 7n - 3 elements
+-- proved-elements         so it is with the transcript that the prover lays
 -- lent-F                  F of the prepared circuit and of a transcript is F of their polynomials
 --
 -- Assumes nothing.
 use mathlib.Core.Path.{_≡_, refl, sym, ap, _∙_, subst}
-use mathlib.Core.List.{List, [], _++_, append-nil}
+use mathlib.Core.List.{List, [], _++_, append-assoc, append-nil}
 use mathlib.Core.Option.{Option, none, some, Option·map, Option·some-injective, Option·none-ne-some}
 use Prim.Native.Nat.{ℕ, zero, suc, _+_, _*_, _≤_, _<_}
 use native.Mathlib.Nat.{zero-mul}
@@ -20,8 +20,9 @@ use Rattle.algebra.specs.PolynomialLaws.{append-elements, reduced-elements}
 use Rattle.field.specs.Domain.{Domain}
 use Rattle.transform.specs.Transform.{interpolation}
 use Rattle.transform.specs.Interpolation.{interpolation-elements}
+use Rattle.transform.specs.Parts.{laid}
 use Rattle.circuit.specs.Circuit.{Constraints}
-use Rattle.circuit.specs.Buffers.{preparedLength, wireLength, zLength, quotientLength, transcriptLength, zStart, preparedPart, wirePart, zPart, tPart}
+use Rattle.circuit.specs.Buffers.{preparedCount, preparedLength, wireLength, zLength, quotientLength, transcriptLength, zStart, preparedPart, wirePart, zPart, tPart}
 use Rattle.protocol.specs.Protocol.{fOf, polyN, polyD, gatePart, stepPart, polyF, quotient, preparedPoly, prepared, zRows, wiresOf, tOf, transcript, proved, pointF}
 
 -- LISTS END TO END
@@ -56,23 +57,32 @@ before-elements {p} {n} {m} f (suc c) {r} h e =
     subst (λ (k : ℕ). Elements p k (f 0 ++ laidBefore (λ s. f (suc s)) c r)) (omega arith)
     (append-elements (h 0) (before-elements (λ s. f (suc s)) c (λ s. h (suc s)) e))
 
+laid-before : (f : ℕ → List ℕ) (c : ℕ) (r : List ℕ) → laid f c ++ r ≡ laidBefore f c r
+unfolding laid
+laid-before f zero r = refl
+laid-before f (suc c) r = append-assoc (laid f c) (f c) r ∙ laid-before f c (f c ++ r) ∙ one-more f c
+  where
+    one-more : (g : ℕ → List ℕ) (k : ℕ) → laidBefore g k (g k ++ r) ≡ laidBefore g (suc k) r
+    one-more g zero = refl
+    one-more g (suc k) = ap (λ l. g 0 ++ l) (one-more (λ s. g (suc s)) k)
+
 -- THE PREPARED CIRCUIT
 
 module _ {p n : ℕ} (D : Domain p n) (C : Constraints) where
-  prepared-before : prepared p n C ≡ laidBefore (preparedPoly p n C) 8 []
+  prepared-before : prepared p n C ≡ laidBefore (preparedPoly p n C) preparedCount []
   unfolding prepared
-  prepared-before = ap (laidBefore (preparedPoly p n C) 7) (sym (append-nil (preparedPoly p n C 7)))
+  prepared-before = sym (append-nil (laid (preparedPoly p n C) preparedCount)) ∙ laid-before (preparedPoly p n C) preparedCount []
 
-  pub prepared-part : (s : ℕ) → s < 8 → preparedPart n s (prepared p n C) ≡ preparedPoly p n C s
+  pub prepared-part : (s : ℕ) → s < preparedCount → preparedPart n s (prepared p n C) ≡ preparedPoly p n C s
   prepared-part s l =
       ap (preparedPart n s) prepared-before
-      ∙ before-part n (preparedPoly p n C) 8 [] (λ s l. interpolation-elements D _ .long) s l
+      ∙ before-part n (preparedPoly p n C) preparedCount [] (λ s l. interpolation-elements D _ .long) s l
 
   pub prepared-elements : Elements p (preparedLength n) (prepared p n C)
   prepared-elements =
-      subst (Elements p (8 * n)) (sym prepared-before)
-      (subst (λ (k : ℕ). Elements p k (laidBefore (preparedPoly p n C) 8 [])) (omega arith)
-      (before-elements (preparedPoly p n C) 8 (λ s. interpolation-elements D _) record { long = refl; below = tt }))
+      subst (Elements p (preparedLength n)) (sym prepared-before)
+      (subst (λ (k : ℕ). Elements p k (laidBefore (preparedPoly p n C) preparedCount [])) (omega arith)
+      (before-elements (preparedPoly p n C) preparedCount (λ s. interpolation-elements D _) record { long = refl; below = tt }))
 
 -- THE TRANSCRIPT
 
@@ -96,8 +106,8 @@ proved-elements {p} {n} D C x v beta gamma alpha T h = go (zRows p n C v beta ga
     with : List ℕ → List ℕ
     with z = transcript (wiresOf p n v) z (tOf p n C x v z beta gamma alpha)
 
-    laid : (z : List ℕ) → Elements p n z → Elements p (transcriptLength n) (with z)
-    laid z e =
+    whole : (z : List ℕ) → Elements p (zLength n) z → Elements p (transcriptLength n) (with z)
+    whole z e =
         let count : zStart n + (zLength n + quotientLength n) ≡ transcriptLength n = omega arith in
         subst (λ (m : ℕ). Elements p m (with z)) count
         (before-elements (wiresOf p n v) 3 (λ c. interpolation-elements D _)
@@ -105,13 +115,13 @@ proved-elements {p} {n} D C x v beta gamma alpha T h = go (zRows p n C v beta ga
 
     go : (o : Option (List ℕ)) → Option·map with (Option·map (λ rows. interpolation p n (coef rows)) o) ≡ some T → Elements p (transcriptLength n) T
     go none e = absurd (Option·none-ne-some T e)
-    go (some rows) e = subst (Elements p (transcriptLength n)) (Option·some-injective _ T e) (laid _ (interpolation-elements D (coef rows)))
+    go (some rows) e = subst (Elements p (transcriptLength n)) (Option·some-injective _ T e) (whole _ (interpolation-elements D (coef rows)))
 
 -- F AS IT IS LENT
 
--- F sees the eight prepared polynomials and the three wires
+-- F sees the prepared polynomials and the three wires
 F-ext : (p n : ℕ) (pre pre′ wire wire′ : ℕ → List ℕ) (x z : List ℕ) (beta gamma alpha : ℕ)
-    → ((s : ℕ) → s < 8 → pre s ≡ pre′ s) → ((c : ℕ) → c < 3 → wire c ≡ wire′ c)
+    → ((s : ℕ) → s < preparedCount → pre s ≡ pre′ s) → ((c : ℕ) → c < 3 → wire c ≡ wire′ c)
     → polyF p n pre wire x z beta gamma alpha ≡ polyF p n pre′ wire′ x z beta gamma alpha
 unfolding polyF gatePart stepPart polyN polyD
 F-ext p n pre pre′ wire wire′ x z beta gamma alpha h k =

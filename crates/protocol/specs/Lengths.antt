@@ -6,7 +6,7 @@
 -- short-gate, short-step, short-start   of the three parts of F
 -- short-F                            F has at most 3a + b + 1 coefficients, for wires of a + 1 and z of b + 1
 -- length-F                           F of constraints has at most 3a + b + 1 coefficients, for wires of a + 1 and z of b + 1
--- length-F-rows                      at most 4n - 3, for wires and z of n
+-- length-F-rows                      at most 4n - 3, for wires and z of the lengths that they have in a transcript
 --
 -- The prepared polynomials, L and the polynomial of the public inputs have at most n = r + 1 coefficients, and the wires may have more.
 -- Assumes nothing.
@@ -23,6 +23,7 @@ use Rattle.field.specs.Fields.{root, multiplier}
 use Rattle.transform.specs.Transform.{interpolation}
 use Rattle.transform.specs.Interpolation.{interpolation-most}
 use Rattle.circuit.specs.Circuit.{Constraints}
+use Rattle.circuit.specs.Buffers.{preparedCount, wiredNumber, wireLength, zLength}
 use Rattle.protocol.specs.Protocol.{fOf, _⊕_, polyN, polyD, polyL, gatePart, stepPart, startPart, polyF, preparedPoly}
 
 pub record Short (d : ℕ) (f : List ℕ) : Type 0 where
@@ -48,7 +49,7 @@ short-L : (r : ℕ) (o : Option ℕ) → Short (suc r) (elim o [ none ↦ [] | s
 short-L r none = record { short = omega arith }
 short-L r (some c) = record { short = omega (arith, length-replicate (suc r) c) }
 
-module _ (p r a b : ℕ) (some : 1 ≤ a) (more : r ≤ a) (pre wire : ℕ → List ℕ) (hp : (s : ℕ) → s < 8 → Short (suc r) (pre s))
+module _ (p r a b : ℕ) (some : 1 ≤ a) (more : r ≤ a) (pre wire : ℕ → List ℕ) (hp : (s : ℕ) → s < preparedCount → Short (suc r) (pre s))
     (hw : (c : ℕ) → c < 3 → Short (suc a) (wire c)) where
   pub short-gate : (x : List ℕ) → Short (suc r) x → Short (suc (3 * a)) (gatePart p pre wire x)
   unfolding gatePart
@@ -60,7 +61,7 @@ module _ (p r a b : ℕ) (some : 1 ≤ a) (more : r ≤ a) (pre wire : ℕ → L
       (short-in _ (hp 4 (omega arith)) (omega arith)))
       (short-scale _ (short-in _ hx (omega arith)))
     where
-      one : (s c : ℕ) → s < 8 → c < 3 → Short (suc (3 * a)) (mulP (pre s) (wire c))
+      one : (s c : ℕ) → s < preparedCount → c < 3 → Short (suc (3 * a)) (mulP (pre s) (wire c))
       one s c h l = short-in _ (short-mul (hp s h) (hw c l)) (omega arith)
 
   module _ (z : List ℕ) (hz : Short (suc b) z) where
@@ -75,8 +76,8 @@ module _ (p r a b : ℕ) (some : 1 ≤ a) (more : r ≤ a) (pre wire : ℕ → L
         n : (c : ℕ) → c < 3 → Short (suc a) (wire c ⊕ (gamma ∷ beta * multiplier p c ∷ []))
         n c l = short-add (hw c l) record { short = omega arith }
 
-        d : (c : ℕ) → c < 3 → Short (suc a) (wire c ⊕ scaleP beta (pre (5 + c)) ⊕ (gamma ∷ []))
-        d c l = short-add (short-add (hw c l) (short-scale beta (short-in _ (hp (5 + c) (omega arith)) (omega arith)))) record { short = omega arith }
+        d : (c : ℕ) → c < 3 → Short (suc a) (wire c ⊕ scaleP beta (pre (wiredNumber + c)) ⊕ (gamma ∷ []))
+        d c l = short-add (short-add (hw c l) (short-scale beta (short-in _ (hp (wiredNumber + c) (omega arith)) (omega arith)))) record { short = omega arith }
 
     pub short-start : Short (suc (3 * a + b)) (startPart p (suc r) z)
     unfolding startPart polyL
@@ -106,10 +107,10 @@ length-F p (suc r) a b C x wire z two more lw lz beta gamma alpha =
     z (record { short = lz }) (interpolation p (suc r) x) (interpolation-short p (suc r) x) beta gamma alpha .short
 
 pub length-F-rows : (p n : ℕ) (C : Constraints) (x : ℕ → ℕ) (wire : ℕ → List ℕ) (z : List ℕ) → 2 ≤ n
-    → ((c : ℕ) → c < 3 → length (wire c) ≡ n) → length z ≡ n
+    → ((c : ℕ) → c < 3 → length (wire c) ≡ wireLength n) → length z ≡ zLength n
     → (beta gamma alpha : ℕ) → length (fOf p n C x wire z beta gamma alpha) ≤ suc (4 * n - 4)
 length-F-rows p n C x wire z two lw lz beta gamma alpha =
     omega (
       arith,
-      length-F p n (n - 1) (n - 1) C x wire z two (omega arith) (λ c h. omega (arith, lw c h)) (omega arith) beta gamma alpha,
+      length-F p n (wireLength n - 1) (zLength n - 1) C x wire z two (omega arith) (λ c h. omega (arith, lw c h)) (omega arith) beta gamma alpha,
     )

@@ -2,9 +2,9 @@
 -- polynomial of that number.
 --
 -- numbered                 where n is a number of rows and the lengths are right, `polynomial` hands back the numbered part
--- numbered-prepared        0 to 7: the polynomials of the prepared circuit
--- numbered-wire            8 to 10: the wires
--- numbered-z, numbered-t   11: z; 12: t
+-- numbered-prepared        the polynomials of the prepared circuit
+-- numbered-wire            the wires
+-- numbered-z, numbered-t   z; t
 --
 -- Assumes nothing.
 use mathlib.Core.Path.{_≡_, sym, ap, subst, _∙_}
@@ -15,10 +15,10 @@ use native.Mathlib.Omega.{arith}
 use lib.ListN.{length, take}
 use lib.Seq.{take-at}
 use denote.Ref.{RefT, now}
-use borrow.Author.Tests.{le-leb, eq-eqb}
+use borrow.Author.Tests.{lt-ltb, eq-eqb}
 use Rattle.field.specs.Domain.{Domain}
 use Rattle.circuit.specs.Circuit.{Constraints}
-use Rattle.circuit.specs.Buffers.{preparedLength, wireLength, zLength, quotientLength, transcriptLength, preparedPart, wirePart, zPart, tPart}
+use Rattle.circuit.specs.Buffers.{wireNumber, zNumber, tNumber, preparedLength, wireLength, zLength, quotientLength, transcriptLength, preparedPart, wirePart, zPart, tPart}
 use Rattle.circuit.specs.Promises.{anyRows, Part, preparedPlace, numberedPart, polynomialPart, Hands}
 use Rattle.protocol.specs.Protocol.{preparedPoly, prepared, transcript}
 use Rattle.protocol.specs.Layout.{prepared-part, wire-part, z-part, t-part}
@@ -31,23 +31,23 @@ module _ (n : ℕ) (pre lent r : RefT (List ℕ)) where
       let is : polynomialPart n k pre lent ≡ numberedPart n k pre lent = rw (a, eq-eqb (length (now pre)) (preparedLength n) b, eq-eqb (length (now lent)) (transcriptLength n) c) in
       subst (λ (P : Part). Hands P r) is H
 
-  pub numbered-prepared : {p : ℕ} → Domain p n → (C : Constraints) → now pre ≡ prepared p n C → (k : ℕ) → k < 8 → Hands (numberedPart n k pre lent) r
+  pub numbered-prepared : {p : ℕ} → Domain p n → (C : Constraints) → now pre ≡ prepared p n C → (k : ℕ) → k < wireNumber → Hands (numberedPart n k pre lent) r
       → now r ≡ preparedPoly p n C k
   numbered-prepared D C e k l H =
-      let is : numberedPart n k pre lent ≡ preparedPlace n k pre = rw (le-leb k 7 (omega arith)) in
+      let is : numberedPart n k pre lent ≡ preparedPlace n k pre = rw (lt-ltb k wireNumber (omega arith)) in
       subst (λ (P : Part). Hands P r) is H .numbers ∙ ap (preparedPart n k) e ∙ prepared-part D C k l
 
   module _ (wire : ℕ → List ℕ) (z t : List ℕ) (lw : (c : ℕ) → c < 3 → length (wire c) ≡ wireLength n) (e : now lent ≡ transcript wire z t) where
-    pub numbered-wire : (c : ℕ) → c < 3 → Hands (numberedPart n (8 + c) pre lent) r → now r ≡ wire c
+    pub numbered-wire : (c : ℕ) → c < 3 → Hands (numberedPart n (wireNumber + c) pre lent) r → now r ≡ wire c
     numbered-wire zero l H = H .numbers ∙ ap (wirePart n 0) e ∙ wire-part n wire z t lw 0 l
     numbered-wire (suc zero) l H = H .numbers ∙ ap (wirePart n 1) e ∙ wire-part n wire z t lw 1 l
     numbered-wire (suc (suc zero)) l H = H .numbers ∙ ap (wirePart n 2) e ∙ wire-part n wire z t lw 2 l
     numbered-wire (suc (suc (suc c))) l H = absurd (omega arith)
 
-    pub numbered-z : length z ≡ zLength n → Hands (numberedPart n 11 pre lent) r → now r ≡ z
+    pub numbered-z : length z ≡ zLength n → Hands (numberedPart n zNumber pre lent) r → now r ≡ z
     numbered-z lz H = H .numbers ∙ ap (zPart n) e ∙ z-part n wire z t lw lz
 
-    pub numbered-t : length z ≡ zLength n → length t ≡ quotientLength n → Hands (numberedPart n 12 pre lent) r → now r ≡ t
+    pub numbered-t : length z ≡ zLength n → length t ≡ quotientLength n → Hands (numberedPart n tNumber pre lent) r → now r ≡ t
     numbered-t lz lt H =
         H .numbers
         ∙ ap (λ (xs : List ℕ). take (quotientLength n) (tPart n xs)) e

@@ -14,6 +14,7 @@ use Rattle.algebra.specs.Modular.{powF, first, inverse}
 use Rattle.algebra.specs.Polynomial.{coef, eval, addP, scaleP, mulP, linear, dilate, reduced, quotientVanishing, remainderVanishing}
 use Rattle.field.specs.Fields.{generator, root, point, multiplier, tag}
 use Rattle.transform.specs.Transform.{evaluation, interpolation}
+use Rattle.transform.specs.Parts.{laid}
 use Rattle.transform.specs.Passes.{strided, oddWord, passed}
 use Rattle.circuit.specs.Buffers.{wirePart, zPart, tPart}
 use Rattle.circuit.specs.Circuit.{Constraints, lentConstraints, lentPublic, witnessPlace, lentWitness, laidWitness, permutation, gate}
@@ -182,5 +183,5 @@ table =
     ∷ []
 
 pub by-hand : All (λ r. r .is ≡ r .should) table
-unfolding tab gathered occurs different powF first inverse reduced quotientVanishing remainderVanishing generator root point multiplier tag evaluation interpolation strided passed lentWitness laidWitness permutation rowN rowD runningZ polyN polyD polyL gatePart stepPart startPart polyF quotient prepared pointVerdict gate zeroFactor tagged lostGammas polynomialOf evaluationsOf mixtureOf
+unfolding tab gathered occurs different powF first inverse reduced quotientVanishing remainderVanishing generator root point multiplier tag evaluation interpolation strided passed lentWitness laidWitness permutation rowN rowD runningZ polyN polyD polyL gatePart stepPart startPart polyF quotient laid prepared pointVerdict gate zeroFactor tagged lostGammas polynomialOf evaluationsOf mixtureOf
 by-hand = refl & refl & refl & refl & refl & refl & refl & refl & refl & refl & refl & refl & refl & refl & refl & refl & refl & refl & refl & refl & refl & refl & refl & refl & refl & refl & refl & refl & refl & refl & refl & refl & refl & refl & refl & refl & refl & refl & refl & refl & refl & refl & refl & refl & refl & refl & refl & refl & refl & refl & refl & refl & refl & refl & refl & refl & refl & refl & refl & refl & refl & refl & refl & refl & refl & refl & refl & refl & refl & refl & refl & refl & refl & refl & refl & refl & tt
