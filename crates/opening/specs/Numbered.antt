@@ -2,7 +2,7 @@
 --
 -- any-rows           an admissible number of rows is one that some prime has
 -- handed             the part that `polynomial` hands back of buffers of the right lengths is the polynomial of the definitions
--- short-polynomial   a polynomial by number has at most 3n - 3 coefficients
+-- short-polynomial   a polynomial by number has at most as many coefficients as t
 --
 -- Assumes nothing.
 use mathlib.Core.Path.{_≡_, refl, _∙_}
@@ -10,13 +10,13 @@ use mathlib.Core.Bool.{Bool, true, false, cond, _||_, or-true}
 use mathlib.Core.List.{List, []}
 use Prim.Native.Nat.{ℕ, _-_, _≤_}
 use native.Mathlib.Omega.{arith}
-use lib.Dec.{eqb, leb}
+use lib.Dec.{eqb, ltb}
 use lib.ListN.{length, take, drop, length-drop}
 use lib.Seq.{take-all}
 use denote.Ref.{RefT, now}
 use Rattle.field.specs.Fields.{isRows, Admissible}
 use Rattle.field.specs.Primes.{by-field, rows-power}
-use Rattle.circuit.specs.Buffers.{quotientLength, tStart, preparedPart, wirePart, zPart, tPart}
+use Rattle.circuit.specs.Buffers.{wireNumber, zNumber, tNumber, quotientLength, tStart, preparedPart, wirePart, zPart, tPart}
 use Rattle.circuit.specs.Parts.{short-prepared, short-wire, short-z}
 use Rattle.circuit.specs.Promises.{anyRows, Part, noPart, preparedPlace, wirePlace, zPlace, tPlace, polynomialPart, Hands}
 use Rattle.protocol.specs.Numbered.{numbered}
@@ -43,11 +43,11 @@ pub handed : {p : ℕ} (n : ℕ) (pre lent r : RefT (List ℕ)) → Readable p n
 unfolding polynomialOf
 handed n pre lent r R k H =
     numbered n pre lent r k (any-rows (R .admissible)) (R .prepared-length) (R .transcript-length) H .numbers
-    ∙ go (leb k 7) (leb k 10) (eqb k 11) (eqb k 12)
+    ∙ go (ltb k wireNumber) (ltb k zNumber) (eqb k zNumber) (eqb k tNumber)
   where
     go : (a b c d : Bool)
-        → numbersOf (cond a (preparedPlace n k pre) (cond b (wirePlace n (k - 8) lent) (cond c (zPlace n lent) (cond d (tPlace n lent) (noPart lent)))))
-        ≡ cond a (preparedPart n k (now pre)) (cond b (wirePart n (k - 8) (now lent)) (cond c (zPart n (now lent)) (cond d (tPart n (now lent)) [])))
+        → numbersOf (cond a (preparedPlace n k pre) (cond b (wirePlace n (k - wireNumber) lent) (cond c (zPlace n lent) (cond d (tPlace n lent) (noPart lent)))))
+        ≡ cond a (preparedPart n k (now pre)) (cond b (wirePart n (k - wireNumber) (now lent)) (cond c (zPart n (now lent)) (cond d (tPart n (now lent)) [])))
     go true b c d = refl
     go false true c d = refl
     go false false true d = refl
@@ -58,15 +58,15 @@ handed n pre lent r R k H =
 pub short-polynomial : {p n : ℕ} {prepared transcript : List ℕ} → Readable p n prepared transcript → (k : ℕ)
     → length (polynomialOf n prepared transcript k) ≤ quotientLength n
 unfolding polynomialOf
-short-polynomial {p} {n} {prepared} {transcript} R k = go (leb k 7) (leb k 10) (eqb k 11) (eqb k 12)
+short-polynomial {p} {n} {prepared} {transcript} R k = go (ltb k wireNumber) (ltb k zNumber) (eqb k zNumber) (eqb k tNumber)
   where
     two : 2 ≤ n
     two = rows-power p n (R .admissible .rows) .least
 
     go : (a b c d : Bool)
-        → length (cond a (preparedPart n k prepared) (cond b (wirePart n (k - 8) transcript) (cond c (zPart n transcript) (cond d (tPart n transcript) [])))) ≤ quotientLength n
+        → length (cond a (preparedPart n k prepared) (cond b (wirePart n (k - wireNumber) transcript) (cond c (zPart n transcript) (cond d (tPart n transcript) [])))) ≤ quotientLength n
     go true b c d = omega (arith, two, short-prepared n prepared k)
-    go false true c d = omega (arith, two, short-wire n transcript (k - 8))
+    go false true c d = omega (arith, two, short-wire n transcript (k - wireNumber))
     go false false true d = omega (arith, two, short-z n transcript)
     go false false false true = omega (arith, length-drop (tStart n) transcript, R .transcript-length)
     go false false false false = omega arith

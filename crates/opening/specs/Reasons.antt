@@ -2,8 +2,8 @@
 --
 -- openingDue n k       the lengths due, k being the list's: prepared circuit, transcript, list (of any length), evaluations, opening polynomial,
 --                      challenges, scratch
--- badList list         12: the list is empty or longer than 13
--- badNumber list       13: a polynomial number is above 12; detail: the first such place in the list
+-- badList list         12: the list is empty, or longer than there are polynomials by number
+-- badNumber list       13: a number in it is no polynomial's; detail: the first such place in the list
 -- listReasons list     12 and 13
 -- lentListReasons      the reasons of both calls but the last: those of p, n and the lengths, then those of the list
 -- counted checks       the elements that 7 counts, end to end: `open` (false) only writes the evaluations and the opening polynomial, and skips them
@@ -18,16 +18,16 @@ use lib.Dec.{eqb, ltb}
 use lib.ListN.{length}
 use Rattle.field.specs.Reasons.{Reason, lentReasons, reasonAt, firstAbove, badElement}
 use Rattle.transform.specs.Transform.{scratchLength}
-use Rattle.circuit.specs.Buffers.{preparedLength, transcriptLength, openingLength}
+use Rattle.circuit.specs.Buffers.{polynomialCount, preparedLength, transcriptLength, openingLength}
 
 abbrev pub openingDue : (n k : ℕ) → List ℕ
 openingDue n k = preparedLength n ∷ transcriptLength n ∷ k ∷ k ∷ openingLength n ∷ 2 ∷ scratchLength n ∷ []
 
 abbrev pub badList : List ℕ → Reason
-badList list = record { number = 12; detail = 0; applies = eqb (length list) 0 || ltb 13 (length list) }
+badList list = record { number = 12; detail = 0; applies = eqb (length list) 0 || ltb polynomialCount (length list) }
 
 abbrev pub badNumber : List ℕ → Reason
-badNumber list = reasonAt 13 (firstAbove 13 list) (length list)
+badNumber list = reasonAt 13 (firstAbove polynomialCount list) (length list)
 
 abbrev pub listReasons : List ℕ → List Reason
 listReasons list = badList list ∷ badNumber list ∷ []

@@ -1,6 +1,6 @@
 -- Calls that are not turned down: exactly those whose numbers and buffers are lent rightly.
 --
--- RightList list      1 to 13 numbers, each at most 12
+-- RightList list      one number or more, no more than there are polynomials by number, and each is a polynomial's
 -- LentRightly         p and n are admissible, the lengths are those due, and the list is right
 -- lent-list-numbers   no reason of the calls has number 0
 -- lent-list-of, lent-list-taken   where no reason but 7 applies, the call is lent rightly; and back
@@ -22,13 +22,14 @@ use Rattle.field.specs.Reasons.{Reason, answerOf, lentReasons, badElement}
 use Rattle.field.specs.ReasonLaws.{none-applies, taken, both-none, both-taken, elements-of, elements-none}
 use Rattle.field.specs.Lent.{lent-numbers, lent-of, lent-taken}
 use Rattle.transform.specs.Transform.{scratchLength}
+use Rattle.circuit.specs.Buffers.{polynomialCount}
 use Rattle.opening.specs.Reasons.{openingDue, listReasons, lentListReasons, counted, openingReasons}
 use Rattle.opening.specs.Buffers.{Checked}
 
 pub record RightList (list : List ℕ) : Type 0 where
   pub some : 1 ≤ length list
-  pub few : length list ≤ 13
-  pub numbers : All (λ (k : ℕ). k < 13) list
+  pub few : length list ≤ polynomialCount
+  pub numbers : All (λ (k : ℕ). k < polynomialCount) list
 
 pub record LentRightly (p n : ℕ) (prepared transcript list evaluations opening challenges scratch : List ℕ) : Type 0 where
   pub checked : Checked p n prepared transcript list evaluations opening challenges
@@ -40,18 +41,18 @@ pub record LentRightly (p n : ℕ) (prepared transcript list evaluations opening
 list-of : (list : List ℕ) → answerOf (listReasons list) .number ≡ 0 → RightList list
 list-of list e =
     let none = none-applies (listReasons list) (omega arith, (omega arith, tt)) e in
-    let long = both-false (eqb (length list) 0) (ltb 13 (length list)) (none .0) in
+    let long = both-false (eqb (length list) 0) (ltb polynomialCount (length list)) (none .0) in
     record {
       some = omega (arith, eqb-false (length list) 0 (long .0));
-      few = ltb-false 13 (length list) (long .1);
-      numbers = elements-of 13 list (none .1 .0);
+      few = ltb-false polynomialCount (length list) (long .1);
+      numbers = elements-of polynomialCount list (none .1 .0);
     }
 
 list-taken : (list : List ℕ) → RightList list → answerOf (listReasons list) ≡ record { number = 0; detail = 0 }
 list-taken list L =
     let some : eqb (length list) 0 ≡ false = ne-eqb (length list) 0 (λ z. omega (arith, L .some)) in
-    let long : (eqb (length list) 0 || ltb 13 (length list)) ≡ false = rw some (le-ltb 13 (length list) (L .few)) in
-    taken (listReasons list) (long, (elements-none 13 list (L .numbers), tt))
+    let long : (eqb (length list) 0 || ltb polynomialCount (length list)) ≡ false = rw some (le-ltb polynomialCount (length list) (L .few)) in
+    taken (listReasons list) (long, (elements-none polynomialCount list (L .numbers), tt))
 
 -- BOTH CALLS
 

@@ -1,11 +1,11 @@
 -- The row values that preparing interpolates.
 --
--- rows-elements    the row values are 8n elements
--- rows-prepared    the polynomials of the eight runs are the prepared circuit
+-- rows-elements    the row values are elements, as many as a prepared circuit has
+-- rows-prepared    the polynomials of the runs are the prepared circuit
 --
 -- Assumes nothing.
 use mathlib.Core.Path.{_≡_, ap, subst, _∙_}
-use mathlib.Core.List.{List, _++_, append-assoc}
+use mathlib.Core.List.{List, _++_}
 use Prim.Native.Nat.{ℕ, _+_, _*_, _<_}
 use native.Mathlib.Omega.{arith}
 use lib.ListN.{length, getD, List·getD-append}
@@ -22,7 +22,7 @@ use Rattle.transform.specs.Transform.{interpolation}
 use Rattle.transform.specs.Interpolation.{interpolation-ext}
 use Rattle.transform.specs.Parts.{laid, interpolated}
 use Rattle.circuit.specs.Circuit.{lentConstraints, permutation, position}
-use Rattle.circuit.specs.Buffers.{selectorsLength, preparedLength}
+use Rattle.circuit.specs.Buffers.{selectorCount, preparedCount, wiredNumber, selectorsLength, preparedLength}
 use Rattle.protocol.specs.Protocol.{prepared, wiredTag}
 use Rattle.preparing.specs.Promises.{rowsOf}
 
@@ -42,19 +42,19 @@ module _ (p n : ℕ) (selectors labels : List ℕ) (l : length selectors ≡ sel
   run s = interpolation p n (λ i. getD (selectors ++ tags) (s * n + i) 0)
 
   -- a run of the selectors, and one of the tags
-  front-run : (s : ℕ) → s < 5 → run s ≡ interpolation p n (λ i. getD selectors (s * n + i) 0)
+  front-run : (s : ℕ) → s < selectorCount → run s ≡ interpolation p n (λ i. getD selectors (s * n + i) 0)
   front-run s h =
-      interpolation-ext p n _ _ (λ i k. List·getD-append selectors tags 0 (s * n + i) (omega (arith, l, run-room s 5 n h)))
+      interpolation-ext p n _ _ (λ i k. List·getD-append selectors tags 0 (s * n + i) (omega (arith, l, run-room s selectorCount n h)))
 
-  back-run : (c : ℕ) → c < 3 → run (5 + c) ≡ interpolation p n (λ i. wiredTag p n (lentConstraints n selectors labels) (position n c i))
+  back-run : (c : ℕ) → c < 3 → run (wiredNumber + c) ≡ interpolation p n (λ i. wiredTag p n (lentConstraints n selectors labels) (position n c i))
   back-run c h =
       interpolation-ext p n _ _ (λ i k.
-      let at : (5 + c) * n + i ≡ length selectors + (c * n + i) = omega (arith, l) in
+      let at : (wiredNumber + c) * n + i ≡ length selectors + (c * n + i) = omega (arith, l) in
       ap (λ (j : ℕ). getD (selectors ++ tags) j 0) at
       ∙ getD-append-add selectors tags (c * n + i) 0
       ∙ getD-tab _ (3 * n) (c * n + i) (omega (arith, run-room c 3 n h)))
 
-  pub rows-prepared : interpolated p n (rowsOf p n selectors labels) 8 ≡ prepared p n (lentConstraints n selectors labels)
+  pub rows-prepared : interpolated p n (rowsOf p n selectors labels) preparedCount ≡ prepared p n (lentConstraints n selectors labels)
   unfolding laid prepared
   rows-prepared =
       rw (
@@ -67,4 +67,3 @@ module _ (p n : ℕ) (selectors labels : List ℕ) (l : length selectors ≡ sel
         back-run 1 (omega arith),
         back-run 2 (omega arith),
       )
-      (simp append-assoc)

@@ -38,7 +38,7 @@ fn decide(
     circuit::decide_numbers(n, l, at, selectors.len(), selectors, labels)
 }
 
-// The row values of the eight polynomials, end to end: the selectors, then the tags of where the permutation leads.
+// The row values of the polynomials, end to end: the selectors, then the tags of where the permutation leads.
 fn fill_rows(p: u32, n: u32, powers: &[u32], selectors: &[u32], labels: &[u32], out: &mut [u32])
     requires { ⌜ Points p n (now powers) ⌝ }
     requires { ⌜ (length (now selectors) ≡ selectorsLength n) × Elements (3 * n) (labelsLength n) (now labels) × (length (now out) ≡ preparedLength n) ⌝ }
@@ -58,7 +58,7 @@ pub fn work(p: u32, n: u32, selectors: &[u32], labels: &[u32], out: &mut [u32], 
     let m = n as usize;
     let powers = field::domain_points(p, n);
     fill_rows(p, n, &powers[..m], selectors, labels, out);
-    transform::interpolate_parts(p, n, &powers[..m], out, &mut scratch[..m], 8);
+    transform::interpolate_parts(p, n, &powers[..m], out, &mut scratch[..m], circuit::PREPARED_COUNT);
     transform::slices::clear(scratch);
 }
 

@@ -29,7 +29,7 @@ use Rattle.field.specs.declared.Answer.{Answer}
 use Rattle.transform.specs.Transform.{valueAt, evaluation, scratchLength}
 use Rattle.circuit.specs.Circuit.{Constraints, position, Satisfies, lentConstraints, lentPublic, lentWitness, laidWitness}
 use Rattle.circuit.specs.Witness.{lent-laid, laid-elements, lent-below}
-use Rattle.circuit.specs.Buffers.{witnessLength, quotientLength}
+use Rattle.circuit.specs.Buffers.{witnessLength, wireLength, zLength, quotientLength}
 use Rattle.circuit.specs.Reasons.{rowsReasons}
 use Rattle.circuit.specs.RightlyLent.{RightCircuit, rows-taken, point-taken}
 use Rattle.protocol.specs.Protocol.{RowVerdict, pass, fails, rowVerdict, zRows, prepared, transcript, proved, zeroFactor}
@@ -52,7 +52,7 @@ module _ (p n l : ℕ) (selectors labels publics : List ℕ) (wire : ℕ → Lis
     pub beta-element : pair .0 < p
     pub gamma-element : pair .1 < p
     pub z : List ℕ
-    pub z-elements : Elements p n z
+    pub z-elements : Elements p (zLength n) z
     pub r : RowAnswer
     pub checks : ChecksRows p n l selectors labels (laidWitness n (witnessOf p n wire)) publics (evaluation p n z) (pair .0 ∷ pair .1 ∷ []) r
     pub passes : r .verdict ≡ Pass
@@ -73,17 +73,17 @@ pub record AnswersCounted (p n l : ℕ) (selectors labels publics : List ℕ) : 
       → Satisfies p n (lentConstraints n selectors labels) (lentPublic publics) (lentWitness n witness)
       → (i : ℕ) → i < l → lentWitness n witness (position n 0 i) ≡ lentPublic publics i
   -- the witness of the three wires breaks a gate or gives one variable two values: at most (3n - 1) × p pairs let some z get the answer Pass
-  pub few-pairs : (wire : ℕ → List ℕ) → ((c : ℕ) → c < 3 → Elements p n (wire c))
+  pub few-pairs : (wire : ℕ → List ℕ) → ((c : ℕ) → c < 3 → Elements p (wireLength n) (wire c))
       → (Satisfies p n (lentConstraints n selectors labels) (lentPublic publics) (witnessOf p n wire) → ⊥)
       → AtMost ((3 * n - 1) * p) (RowsPass p n l selectors labels publics wire)
   -- any of the other pairs, and any z: at most 2 alphas let some quotient hold
-  pub few-alphas : (wire : ℕ → List ℕ) → ((c : ℕ) → c < 3 → Elements p n (wire c))
+  pub few-alphas : (wire : ℕ → List ℕ) → ((c : ℕ) → c < 3 → Elements p (wireLength n) (wire c))
       → (pair : ℕ × ℕ) → pair .0 < p → pair .1 < p → (RowsPass p n l selectors labels publics wire pair → ⊥)
-      → (z : List ℕ) → Elements p n z
+      → (z : List ℕ) → Elements p (zLength n) z
       → AtMost 2 (HoldingAlpha p n (lentConstraints n selectors labels) (lentPublic publics) wire z pair)
   -- any of the other alphas, and any t: at most 4n - 4 zetas get the answer Accept
-  pub few-zetas : (wire : ℕ → List ℕ) → ((c : ℕ) → c < 3 → Elements p n (wire c))
-      → (pair : ℕ × ℕ) (alpha : ℕ) → alpha < p → (z : List ℕ) → Elements p n z
+  pub few-zetas : (wire : ℕ → List ℕ) → ((c : ℕ) → c < 3 → Elements p (wireLength n) (wire c))
+      → (pair : ℕ × ℕ) (alpha : ℕ) → alpha < p → (z : List ℕ) → Elements p (zLength n) z
       → (HoldingAlpha p n (lentConstraints n selectors labels) (lentPublic publics) wire z pair alpha → ⊥)
       → (t : List ℕ) → Elements p (quotientLength n) t
       → AtMost (4 * n - 4) (PointAccepts p n l selectors labels publics wire z t pair alpha)

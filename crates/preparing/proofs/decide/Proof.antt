@@ -4,6 +4,7 @@ use mathlib.Core.List.{List, [], _∷_}
 use Prim.Native.Nat.{ℕ, _*_}
 use native.Mathlib.Omega.{arith}
 use lib.ListN.{length}
+use Rattle.circuit.specs.Buffers.{selectorsLength}
 use borrow.Author.Needs.{needs}
 use Rattle.field.specs.Primes.{rows-power}
 use Rattle.field.specs.Reasons.{Reason, answerOf, reasonAt}
@@ -51,7 +52,7 @@ decide-numbers-requires : tie.Need-decide-numbers-requires
 decide-numbers-requires c κs =
     let s = start (c .before .before) in
     let L = lent (c .before) in
-    let a : length (s .args .selectors .now) ≡ 5 * s .args .n = cc (L .lengths) in
+    let a : length (s .args .selectors .now) ≡ selectorsLength (s .args .n) = cc (L .lengths) in
     let b : length (s .args .labels .now) ≡ 3 * s .args .n = cc (L .lengths) in
     let small = rows-power _ _ (L .admissible .rows) .small in
     ((small, omega (arith, L .publics-few), omega arith), (a, omega arith))

@@ -4,6 +4,7 @@ use Prim.Native.Nat.{ℕ, _≤_}
 use native.Mathlib.Omega.{arith}
 use lib.ListN.{length, replicate}
 use lib.Seq.{length-take-le, length-front}
+use Rattle.circuit.specs.Buffers.{preparedCount}
 use borrow.Author.Needs.{needs}
 use Rattle.field.specs.Primes.{rows-power}
 use Rattle.transform.specs.Parts.{interpolated}
@@ -67,7 +68,7 @@ returns c =
     let s = c .before .before .before .before .before .before .before .before .before .before .before .before .before .before .before .before .before .before .before .before .before .before in
     let t = c .before .before .before .before .before .before .before .before .interpolate-parts in (
       t .ensures
-          ∙ ap (λ l. interpolated (s .args .p) (s .args .n) l 8) (c .before .before .before .before .before .before .before .before .before .before .before .before .before .before .fill-rows .ensures)
+          ∙ ap (λ l. interpolated (s .args .p) (s .args .n) l preparedCount) (c .before .before .before .before .before .before .before .before .before .before .before .before .before .before .fill-rows .ensures)
           ∙ rows-prepared _ _ (s .args .selectors .now) (s .args .labels .now) (s .pre .elements .long),
       c .before .before .clear .ensures ∙ ap (λ (m : ℕ). replicate m 0) (length-front (s .args .scratch .now) (t .last .1 .1 .1 .1 .0) (s .args .n) (t .kept .1 .1 .1 .1 .0) ∙ s .pre .scratch-length),
     )
