@@ -41,6 +41,7 @@ pub use parts::wire_part;
 pub use parts::z_part;
 pub use publics::public_of;
 pub use publics::public_polynomial;
+pub use reasons::decide_filled;
 pub use reasons::decide_numbers;
 pub use selectors::unbound_row;
 pub use tags::factor_of;

@@ -1,12 +1,14 @@
 // Reasons for turning a call down that several calls share. Nothing is written.
 ghost use mathlib.Core.Path.{_≡_};
-ghost use mathlib.Core.List.{List, [], _∷_};
+ghost use mathlib.Core.List.{List, [], _∷_, _++_};
 ghost use Prim.Native.Nat.{ℕ, _≤_};
 ghost use lib.ListN.{length};
-ghost use Rattle.field.specs.Reasons.{answerOf, reasonAt};
+ghost use Rattle.field.specs.Reasons.{answerOf, reasonAt, lentReasons};
+ghost use Rattle.field.specs.Lent.{Lent};
 ghost use Rattle.circuit.specs.Circuit.{lentConstraints};
 ghost use Rattle.circuit.specs.Buffers.{selectorsLength};
-ghost use Rattle.circuit.specs.Reasons.{badLabel, badPublicRow, circuitReasons};
+ghost use Rattle.circuit.specs.Reasons.{badLabel, badPublicRow, circuitReasons, numberReasons};
+ghost use Rattle.circuit.specs.Sized.{Sized};
 use field::Answer;
 
 // The reason of the labels, 8.
@@ -60,4 +62,34 @@ pub fn decide_numbers(
         return elements;
     }
     decide_circuit(n, l, selectors, labels)
+}
+
+// The reasons of a call that is lent a circuit and what it is filled with: those of p, n, l and the lengths, `long` being the lengths of the call's buffers, and `due` those due; then those of
+// the numbers in the buffers, end to end. A call that is lent no row values of z has an empty part there.
+pub fn decide_filled(
+    p: u32,
+    n: u32,
+    l: u32,
+    long: &[usize],
+    due: &[usize],
+    selectors: &[u32],
+    labels: &[u32],
+    witness: &[u32],
+    publics: &[u32],
+    z: &[u32],
+    challenges: &[u32],
+) -> Answer
+    requires { ⌜ (length (now long) ≡ length (now due)) × (length (now due) ≤ 16) ⌝ }
+    requires { ⌜ (Lent p n l (now long) (now due) → Sized n (now selectors) (now labels) (now witness) (now publics) (now z) (now challenges)) ⌝ }
+    ensures { λ r. ⌜ r ≡ answerOf (lentReasons p n l (now (long .entry)) (now (due .entry)) ++ numberReasons p n l (now (selectors .entry) ++ (now (witness .entry) ++ (now (publics .entry) ++ (now (z .entry) ++ now (challenges .entry))))) (now (selectors .entry)) (now (labels .entry))) ⌝ }
+{
+    let answer = field::decide_lent(p, n, l, long, due);
+    let number = answer.number;
+    if number != 0 {
+        return answer;
+    }
+    let at = field::first_of_four(p, selectors, witness, publics, z);
+    let four = selectors.len() + witness.len() + publics.len() + z.len();
+    let place = field::then_above(p, at, four, challenges);
+    decide_numbers(n, l, place, four + challenges.len(), selectors, labels)
 }

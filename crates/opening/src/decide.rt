@@ -35,7 +35,11 @@ fn decide_list(list: &[u32]) -> Answer
     if circuit::POLYNOMIAL_COUNT < k {
         return field::refused(12, 0);
     }
-    field::decide_at(13, field::first_above(circuit::POLYNOMIAL_COUNT as u32, list), k)
+    field::decide_at(
+        13,
+        field::first_above(circuit::POLYNOMIAL_COUNT as u32, list),
+        k,
+    )
 }
 
 // The reasons of p and n, of the lengths and of the list: 2, 3, 6, 12 and 13.

@@ -58,7 +58,14 @@ pub fn work(p: u32, n: u32, selectors: &[u32], labels: &[u32], out: &mut [u32], 
     let m = n as usize;
     let powers = field::domain_points(p, n);
     fill_rows(p, n, &powers[..m], selectors, labels, out);
-    transform::interpolate_parts(p, n, &powers[..m], out, &mut scratch[..m], circuit::PREPARED_COUNT);
+    transform::interpolate_parts(
+        p,
+        n,
+        &powers[..m],
+        out,
+        &mut scratch[..m],
+        circuit::PREPARED_COUNT,
+    );
     transform::slices::clear(scratch);
 }
 

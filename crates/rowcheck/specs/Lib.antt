@@ -1,4 +1,3 @@
 -- Definitions, then theorems.
 pub mod Promises
 pub mod Buffers
-pub mod Rows

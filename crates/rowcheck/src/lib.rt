@@ -1,6 +1,6 @@
 // The row check: the three identities, row by row, in document 01's order.
 //
-// The public call is `check_rows`. The functions of `rows` and `tables` are for the prover too, which has checked its numbers.
+// The public call is `check_rows`.
 ghost use mathlib.Core.Path.{_≡_};
 ghost use lib.ListN.{getD};
 ghost use Rattle.circuit.specs.Circuit.{lentConstraints, lentPublic, lentWitness};
@@ -10,8 +10,6 @@ ghost use Rattle.rowcheck.specs.Buffers.{Checked};
 use field::Answer;
 
 mod reasons;
-pub mod rows;
-pub mod tables;
 mod verdicts;
 
 // The identity that fails: the gate; z = 1 at row 0; the step from a row to the next.
@@ -49,8 +47,8 @@ fn work(
 {
     let m = n as usize;
     let k = 3 * m;
-    let own = tables::own(p, n);
-    let wired = tables::wired(p, n, labels);
+    let own = rowwise::tables::own(p, n);
+    let wired = rowwise::tables::wired(p, n, labels);
     verdicts::judge_rows(
         p,
         m,

@@ -27,13 +27,17 @@ pub fn decide(
         challenges.len(),
     ];
     let due = circuit::due::rows(n as usize, l as usize);
-    let answer = field::decide_lent(p, n, l, &long, &due);
-    let number = answer.number;
-    if number != 0 {
-        return answer;
-    }
-    let at = field::first_of_four(p, selectors, witness, publics, z);
-    let four = selectors.len() + witness.len() + publics.len() + z.len();
-    let place = field::then_above(p, at, four, challenges);
-    circuit::decide_numbers(n, l, place, four + challenges.len(), selectors, labels)
+    circuit::decide_filled(
+        p,
+        n,
+        l,
+        &long,
+        &due,
+        selectors,
+        labels,
+        witness,
+        publics,
+        z,
+        challenges,
+    )
 }

@@ -29,12 +29,17 @@ pub fn of_buffers(
         scratch.len(),
     ];
     let due = circuit::due::prove(n as usize, l as usize);
-    let answer = field::decide_lent(p, n, l, &long, &due);
-    let number = answer.number;
-    if number != 0 {
-        return answer;
-    }
-    let at = field::first_of_four(p, selectors, witness, publics, challenges);
-    let count = selectors.len() + witness.len() + publics.len() + challenges.len();
-    circuit::decide_numbers(n, l, at, count, selectors, labels)
+    circuit::decide_filled(
+        p,
+        n,
+        l,
+        &long,
+        &due,
+        selectors,
+        labels,
+        witness,
+        publics,
+        &challenges[..0],
+        challenges,
+    )
 }

@@ -1,4 +1,4 @@
--- `rowcheck::tables::own` meets its contract: the tags are written into the first 3n words of the array. Assumes nothing.
+-- `rowwise::tables::own` meets its contract: the tags are written into the first 3n words of the array. Assumes nothing.
 use mathlib.Core.Path.{_≡_, sym, ap, _∙_}
 use Prim.Native.Nat.{_*_, _≤_}
 use native.Mathlib.Omega.{arith}
@@ -9,8 +9,8 @@ use Rattle.algebra.specs.Ends.{front-fits, front-is}
 use Rattle.algebra.specs.Lists.{tab}
 use Rattle.field.specs.Fields.{tag}
 use Rattle.field.specs.Primes.{rows-power}
-use Rattle.rowcheck.proofs.tables.own.Statement.{statement}
-use Rattle.rowcheck.proofs.tables.own.Tie as tie
+use Rattle.rowwise.proofs.tables.own.Statement.{statement}
+use Rattle.rowwise.proofs.tables.own.Tie as tie
 
 -- the arrays have room for n points and 3n tags
 powers-fit : (c : tie.After-domain-points) → c .before .before .args .n ≤ length (c .domain-points .result)

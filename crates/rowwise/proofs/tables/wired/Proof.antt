@@ -1,4 +1,4 @@
--- `rowcheck::tables::wired` meets its contract: the tags are written into the first 3n words of the array. Assumes nothing.
+-- `rowwise::tables::wired` meets its contract: the tags are written into the first 3n words of the array. Assumes nothing.
 use mathlib.Core.Path.{sym, _∙_}
 use Prim.Native.Nat.{_*_, _≤_}
 use native.Mathlib.Omega.{arith}
@@ -7,8 +7,8 @@ use lib.Seq.{length-take-le}
 use borrow.Author.Needs.{needs}
 use Rattle.algebra.specs.Ends.{front-fits, front-is}
 use Rattle.field.specs.Primes.{rows-power}
-use Rattle.rowcheck.proofs.tables.wired.Statement.{statement}
-use Rattle.rowcheck.proofs.tables.wired.Tie as tie
+use Rattle.rowwise.proofs.tables.wired.Statement.{statement}
+use Rattle.rowwise.proofs.tables.wired.Tie as tie
 
 -- the arrays have room for n points and 3n tags
 powers-fit : (c : tie.After-domain-points) → c .before .before .before .args .n ≤ length (c .domain-points .result)
