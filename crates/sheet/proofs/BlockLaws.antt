@@ -19,12 +19,12 @@ use lib.ListN.{length, replicate}
 use borrow.Author.Tests.{lt-ltb, le-ltb}
 use Rattle.algebra.specs.Lists.{tab}
 use Rattle.algebra.specs.Tables.{tab-ext, tab-add, tab-const}
-use Rattle.circuit.specs.Buffers.{selectorsLength, labelsLength, witnessLength}
-use Rattle.sheet.specs.Sheet.{padded}
+use Rattle.circuit.specs.Buffers.{selectorCount, selectorsLength, labelsLength, witnessLength}
+use Rattle.sheet.specs.Sheet.{challengeCount, labelField, padded}
 use Rattle.sheet.specs.declared.blocks.Block.{Block}
-use Rattle.sheet.specs.Table.{byColumns, byRows, selectorsBlock, labelsBlock, witnessBlock, publicsBlock, challengesBlock, inTable, Fits, Full}
+use Rattle.sheet.specs.Table.{lineWords, tableLines, tableLength, tablePlace, byColumns, byRows, selectorsBlock, labelsBlock, witnessBlock, publicsBlock, challengesBlock, inTable, Fits, Full}
 
-pub columns-fit : (t : List ℕ) (n line field c count : ℕ) → 0 < n → line + n ≤ 770 → length t ≡ 6160 → field + c ≤ 8 → count ≤ c * n
+pub columns-fit : (t : List ℕ) (n line field c count : ℕ) → 0 < n → line + n ≤ tableLines → length t ≡ tableLength → field + c ≤ lineWords → count ≤ c * n
     → Fits t (byColumns n line field count)
 columns-fit t n line field c count some lines long fields few =
     record {
@@ -32,10 +32,10 @@ columns-fit t n line field c count some lines long fields few =
       within = λ k h. inside (k % n) (k / n) (mod-lt k some) (div-lt-iff-lt-mul {x = k} {y = c} some .1 (omega arith));
     }
   where
-    inside : (a b : ℕ) → a < n → b < c → 8 * line + field + 8 * a + 1 * b < length t
+    inside : (a b : ℕ) → a < n → b < c → tablePlace line field + lineWords * a + 1 * b < length t
     inside a b g h = omega arith
 
-pub rows-fit : (t : List ℕ) (width rows line count : ℕ) → 0 < width → width ≤ 8 → line + rows ≤ 770 → length t ≡ 6160 → count ≤ rows * width
+pub rows-fit : (t : List ℕ) (width rows line count : ℕ) → 0 < width → width ≤ lineWords → line + rows ≤ tableLines → length t ≡ tableLength → count ≤ rows * width
     → Fits t (byRows width line count)
 rows-fit t width rows line count some fields lines long few =
     record {
@@ -43,15 +43,15 @@ rows-fit t width rows line count some fields lines long few =
       within = λ k h. inside (k % width) (k / width) (mod-lt k some) (div-lt-iff-lt-mul {x = k} {y = rows} some .1 (omega arith));
     }
   where
-    inside : (a b : ℕ) → a < width → b < rows → 8 * line + 1 * a + 8 * b < length t
+    inside : (a b : ℕ) → a < width → b < rows → tablePlace line 0 + 1 * a + lineWords * b < length t
     inside a b g h = omega arith
 
 module _ (n l : ℕ) (t : List ℕ) (full : Full n l t) {B : Block} where
   pub selectors-fit : B ≡ selectorsBlock n → Fits t B
-  selectors-fit e = rw e (columns-fit t n 1 0 5 (selectorsLength n) (full .some) (omega arith) (full .long) (omega arith) (omega arith))
+  selectors-fit e = rw e (columns-fit t n 1 0 selectorCount (selectorsLength n) (full .some) (omega arith) (full .long) (omega arith) (omega arith))
 
   pub labels-fit : B ≡ labelsBlock n → Fits t B
-  labels-fit e = rw e (columns-fit t n 1 5 3 (labelsLength n) (full .some) (omega arith) (full .long) (omega arith) (omega arith))
+  labels-fit e = rw e (columns-fit t n 1 labelField 3 (labelsLength n) (full .some) (omega arith) (full .long) (omega arith) (omega arith))
 
   pub witness-fit : B ≡ witnessBlock n → Fits t B
   witness-fit e = rw e (rows-fit t 3 n (n + 1) (witnessLength n) (omega arith) (omega arith) (omega arith) (full .long) (omega arith))
@@ -60,7 +60,7 @@ module _ (n l : ℕ) (t : List ℕ) (full : Full n l t) {B : Block} where
   publics-fit e = rw e (rows-fit t 1 l (n + n + 1) l (omega arith) (omega arith) (omega arith) (full .long) (omega arith))
 
   pub challenges-fit : B ≡ challengesBlock n l → Fits t B
-  challenges-fit e = rw e (rows-fit t 4 1 (n + n + l + 1) 4 (omega arith) (omega arith) (omega arith) (full .long) (omega arith))
+  challenges-fit e = rw e (rows-fit t challengeCount 1 (n + n + l + 1) challengeCount (omega arith) (omega arith) (omega arith) (full .long) (omega arith))
 
 pub count-room : {B B' : Block} {m : ℕ} → B ≡ B' → B' .count ≤ m → B .count ≤ m
 count-room {B} {B'} {m} e h = rw e h

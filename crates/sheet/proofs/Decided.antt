@@ -29,7 +29,7 @@ use Rattle.field.specs.ReasonLaws.{none-applies, refused-later}
 use Rattle.text.specs.Text.{numberAt, fieldAt, isLineAt}
 use Rattle.sheet.specs.declared.SheetAnswer.{SheetAnswer}
 use Rattle.sheet.specs.Sheet.{sheetRows, sheetP, sheetN, sheetL, linesDue, lineAt, badLine, badFirst, firstReasons, lineReasons, sheetDue, sheetLengths, sheetNumbers, behindReasons, readReasons}
-use Rattle.sheet.specs.Table.{Held, Full, Begins, Room}
+use Rattle.sheet.specs.Table.{tableLength, Held, Full, Begins, Room}
 use Rattle.sheet.specs.Deciding.{tableNumbers, Opened, Decides, first-numbers}
 use Rattle.sheet.proofs.LineLaws.{second-start}
 use Rattle.sheet.specs.TableLaws.{elements-same, selectors-list-same, labels-list-same}
@@ -75,7 +75,7 @@ table-reasons s p n l t full held =
 
 -- WHAT IS KNOWN
 
-pub full-of : {p n l : ℕ} (t : List ℕ) → Shape p n l sheetRows → length t ≡ 6160 → Full n l t
+pub full-of : {p n l : ℕ} (t : List ℕ) → Shape p n l sheetRows → length t ≡ tableLength → Full n l t
 full-of {p} {n} t shape long =
     record {
       some = omega (arith, rows-power p n (shape .admissible .rows) .least);
@@ -85,7 +85,7 @@ full-of {p} {n} t shape long =
     }
 
 module _ (s : List ℕ) (p n l at : ℕ) (opened : Opened s p n l at) where
-  pub begun : (t : List ℕ) → Shape p n l sheetRows → length t ≡ 6160 → Begins s n l at t
+  pub begun : (t : List ℕ) → Shape p n l sheetRows → length t ≡ tableLength → Begins s n l at t
   begun t shape long =
       record {
         full = full-of t shape long;

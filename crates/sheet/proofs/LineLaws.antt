@@ -26,7 +26,7 @@ use Rattle.algebra.specs.Search.{first-is}
 use Rattle.algebra.specs.Tables.{length-tab, getD-tab}
 use Rattle.text.specs.Text.{numberAt, fieldAt, isLineAt}
 use Rattle.sheet.specs.Sheet.{fieldsDue, linesDue, lineAt, numberOf, badLine}
-use Rattle.sheet.specs.Table.{Held}
+use Rattle.sheet.specs.Table.{tablePlace, Held}
 use Rattle.sheet.specs.Due.{due-most}
 
 abbrev pub isBad : List ℕ → ℕ → ℕ → ℕ → Bool
@@ -52,48 +52,49 @@ pub next-start : (s : List ℕ) (n l i at k next : ℕ) → next ≡ fieldAt s a
 unfolding lineAt
 next-start s n l i at k next e f g = e ∙ ap₂ (fieldAt s) f g ∙ ap (lineAt s n l) (sym (add-one i))
 
-pub part-long : (a k : ℕ) (t : List ℕ) → a + k ≤ length t → length (midOf a (a + k - a) t) ≡ k
-part-long a k t room = let q : a + k - a ≡ k = omega arith in mid-len a (a + k) t room ∙ q
+pub part-long : (from to k : ℕ) (t : List ℕ) → to ≡ from + k → to ≤ length t → length (midOf from (to - from) t) ≡ k
+part-long from to k t e room = let q : to - from ≡ k = omega arith in mid-len from to t room ∙ q
 
 pub held-none : (s : List ℕ) (n l : ℕ) (t : List ℕ) → Held s n l 1 t
 held-none s n l t = record { number = λ i j g h f. absurd (omega arith) }
 
--- line i is read into its 8 words
-module _ (s : List ℕ) (n l i k at : ℕ) (t ys : List ℕ) (few : k ≡ fieldsDue n l i) (starts : at ≡ lineAt s n l i) (room : 8 * i + k ≤ length t)
-    (is : ys ≡ tab (λ j. numberAt s (fieldAt s at j)) (length (midOf (8 * i) (8 * i + k - 8 * i) t))) where
+-- line i is read into its words, from `from` to `to`
+module _ (s : List ℕ) (n l i k at from to : ℕ) (t ys : List ℕ) (few : k ≡ fieldsDue n l i) (starts : at ≡ lineAt s n l i)
+    (begins : from ≡ tablePlace i 0) (ends : to ≡ tablePlace i k) (room : to ≤ length t)
+    (is : ys ≡ tab (λ j. numberAt s (fieldAt s at j)) (length (midOf from (to - from) t))) where
   abbrev after : List ℕ
-  after = putMid (8 * i) (8 * i + k - 8 * i) t ys
+  after = putMid from (to - from) t ys
 
-  front : length (take (8 * i) t) ≡ 8 * i
-  front = length-take-le (8 * i) t (omega arith)
+  front : length (take from t) ≡ from
+  front = length-take-le from t (omega arith)
 
-  long : length (midOf (8 * i) (8 * i + k - 8 * i) t) ≡ k
-  long = part-long (8 * i) k t room
+  long : length (midOf from (to - from) t) ≡ k
+  long = part-long from to k t (omega arith) room
 
   ys-long : length ys ≡ k
-  ys-long = ap length is ∙ length-tab (λ j. numberAt s (fieldAt s at j)) (length (midOf (8 * i) (8 * i + k - 8 * i) t)) ∙ long
+  ys-long = ap length is ∙ length-tab (λ j. numberAt s (fieldAt s at j)) (length (midOf from (to - from) t)) ∙ long
 
-  before : (m : ℕ) → m < 8 * i → getD after m 0 ≡ getD t m 0
+  before : (m : ℕ) → m < from → getD after m 0 ≡ getD t m 0
   before m h =
-      List·getD-append (take (8 * i) t) (ys ++ postOf (8 * i) (8 * i + k - 8 * i) t) 0 m (omega (arith, front))
-      ∙ getD-take (8 * i) t m 0 h
+      List·getD-append (take from t) (ys ++ postOf from (to - from) t) 0 m (omega (arith, front))
+      ∙ getD-take from t m 0 h
 
-  here : (j : ℕ) → j < k → getD after (8 * i + j) 0 ≡ numberOf s n l i j
+  here : (j : ℕ) → j < k → getD after (tablePlace i j) 0 ≡ numberOf s n l i j
   unfolding numberOf
   here j h =
-      ap (λ (m : ℕ). getD after (m + j) 0) (sym front)
-      ∙ getD-append-add (take (8 * i) t) (ys ++ postOf (8 * i) (8 * i + k - 8 * i) t) j 0
-      ∙ List·getD-append ys (postOf (8 * i) (8 * i + k - 8 * i) t) 0 j (omega (arith, ys-long))
+      ap (λ (m : ℕ). getD after m 0) (omega (arith, front))
+      ∙ getD-append-add (take from t) (ys ++ postOf from (to - from) t) j 0
+      ∙ List·getD-append ys (postOf from (to - from) t) 0 j (omega (arith, ys-long))
       ∙ ap (λ (l : List ℕ). getD l j 0) is
-      ∙ getD-tab (λ j. numberAt s (fieldAt s at j)) (length (midOf (8 * i) (8 * i + k - 8 * i) t)) j (omega (arith, long))
+      ∙ getD-tab (λ j. numberAt s (fieldAt s at j)) (length (midOf from (to - from) t)) j (omega (arith, long))
       ∙ ap (λ (a : ℕ). numberAt s (fieldAt s a j)) starts
 
   pub held-more : Held s n l i t → Held s n l (i + 1) after
   held-more held = record { number = λ m j g h f. go m j g h f (decLt m i) }
     where
-      go : (m j : ℕ) → 0 < m → m < i + 1 → j < fieldsDue n l m → Dec (m < i) → getD after (8 * m + j) 0 ≡ numberOf s n l m j
-      go m j g h f (yes u) = before (8 * m + j) (omega (arith, due-most n l m)) ∙ held .number m j g u f
+      go : (m j : ℕ) → 0 < m → m < i + 1 → j < fieldsDue n l m → Dec (m < i) → getD after (tablePlace m j) 0 ≡ numberOf s n l m j
+      go m j g h f (yes u) = before (tablePlace m j) (omega (arith, due-most n l m)) ∙ held .number m j g u f
       go m j g h f (no u) =
           let q : m ≡ i = omega arith in
           let w : j < fieldsDue n l i = rw (← q) f in
-          ap (λ (m : ℕ). getD after (8 * m + j) 0) q ∙ here j (omega (arith, few, w)) ∙ ap (λ (m : ℕ). numberOf s n l m j) (sym q)
+          ap (λ (m : ℕ). getD after (tablePlace m j) 0) q ∙ here j (omega (arith, few, w)) ∙ ap (λ (m : ℕ). numberOf s n l m j) (sym q)

@@ -15,8 +15,8 @@ use borrow.Author.Tests.{eq-eqb, ne-eqb}
 use Rattle.field.specs.Reasons.{Reason, answerOf}
 use Rattle.circuit.specs.Buffers.{selectorsLength, labelsLength, witnessLength}
 use Rattle.sheet.specs.declared.SheetAnswer.{SheetAnswer}
-use Rattle.sheet.specs.Sheet.{sheetRows, sheetN, sheetL, onSelectors, onLabels, onWitness, onPublics, onChallenges, sheetLengths, sheetReasons}
-use Rattle.sheet.specs.Table.{Full, Room, Laid, selectorsIn, labelsIn, witnessIn, publicsIn, challengesIn}
+use Rattle.sheet.specs.Sheet.{sheetRows, challengeCount, sheetN, sheetL, onSelectors, onLabels, onWitness, onPublics, onChallenges, sheetLengths, sheetReasons}
+use Rattle.sheet.specs.Table.{tableLength, Full, Room, Laid, selectorsIn, labelsIn, witnessIn, publicsIn, challengesIn}
 use Rattle.sheet.specs.Deciding.{Decides, found, Taken, taken-of}
 use Rattle.sheet.specs.Promises.{Reads}
 use Rattle.sheet.proofs.BlockLaws.{padded-same}
@@ -41,7 +41,7 @@ module _ (s selectors labels witness publics challenges : List ℕ) (r : SheetAn
     pub buffers : Room selectors labels witness publics challenges
     buffers = roomy s selectors labels witness publics challenges (taken .1)
 
-    module _ (long : length t ≡ 6160) where
+    module _ (long : length t ≡ tableLength) where
       filled : Full (sheetN s) (sheetL s) t
       filled = full-of t (taken .0 .shape) long
 
@@ -66,7 +66,7 @@ module _ (s selectors labels witness publics challenges : List ℕ) (r : SheetAn
             labels-laid = rw accepted (same .labels-laid ∙ padded-same (labelsLength sheetRows) (labelsLength n) (labelsIn t n) (onLabels s n l) (labels-same s n l t filled held));
             witness-laid = rw accepted (same .witness-laid ∙ padded-same (witnessLength sheetRows) (witnessLength n) (witnessIn t n) (onWitness s n l) (witness-same s n l t filled held));
             publics-laid = rw accepted (same .publics-laid ∙ padded-same sheetRows l (publicsIn t n l) (onPublics s n l) (publics-same s n l t filled held));
-            challenges-laid = rw accepted (same .challenges-laid ∙ padded-same 4 4 (challengesIn t n l) (onChallenges s n l) (challenges-same s n l t filled held));
+            challenges-laid = rw accepted (same .challenges-laid ∙ padded-same challengeCount challengeCount (challengesIn t n l) (onChallenges s n l) (challenges-same s n l t filled held));
           }
 
   pub read-refused : (r .answer .number ≡ 0 → ⊥) → Reads s selectors labels witness publics challenges r selectors labels witness publics challenges

@@ -11,7 +11,7 @@ use lib.ListN.{length}
 use Rattle.field.specs.Reasons.{answerOf, isAccepted}
 use Rattle.circuit.specs.Buffers.{selectorsLength, labelsLength, witnessLength}
 use Rattle.sheet.specs.declared.SheetAnswer.{SheetAnswer}
-use Rattle.sheet.specs.Sheet.{sheetRows, sheetP, sheetN, sheetL, onSelectors, onLabels, onWitness, onPublics, onChallenges, padded, sheetReasons}
+use Rattle.sheet.specs.Sheet.{sheetRows, challengeCount, sheetP, sheetN, sheetL, onSelectors, onLabels, onWitness, onPublics, onChallenges, padded, sheetReasons}
 
 -- refused: p, n and l are 0, and every buffer is as it came; accepted: the numbers of the sheet as they are lent for its n, zeros behind
 pub record Reads (s selectors labels witness publics challenges : List ℕ) (r : SheetAnswer) (selectors' labels' witness' publics' challenges' : List ℕ)
@@ -25,4 +25,4 @@ pub record Reads (s selectors labels witness publics challenges : List ℕ) (r :
   pub labels-laid : labels' ≡ cond (isAccepted (r .answer)) (padded (labelsLength sheetRows) (onLabels s (sheetN s) (sheetL s)) (labelsLength (sheetN s))) labels
   pub witness-laid : witness' ≡ cond (isAccepted (r .answer)) (padded (witnessLength sheetRows) (onWitness s (sheetN s) (sheetL s)) (witnessLength (sheetN s))) witness
   pub publics-laid : publics' ≡ cond (isAccepted (r .answer)) (padded sheetRows (onPublics s (sheetN s) (sheetL s)) (sheetL s)) publics
-  pub challenges-laid : challenges' ≡ cond (isAccepted (r .answer)) (padded 4 (onChallenges s (sheetN s) (sheetL s)) 4) challenges
+  pub challenges-laid : challenges' ≡ cond (isAccepted (r .answer)) (padded challengeCount (onChallenges s (sheetN s) (sheetL s)) challengeCount) challenges

@@ -24,12 +24,12 @@ use Rattle.field.specs.Fields.{isField, isRows}
 use Rattle.field.specs.ReasonLaws.{elements-none}
 use Rattle.transform.specs.Parts.{laid}
 use Rattle.circuit.specs.Circuit.{position, witnessPlace, witnessPosition, lentConstraints, lentWitness}
-use Rattle.circuit.specs.Buffers.{selectorsLength, labelsLength, witnessLength}
+use Rattle.circuit.specs.Buffers.{selectorCount, selectorsLength, labelsLength, witnessLength}
 use Rattle.circuit.specs.Reasons.{unboundRow}
 use Rattle.circuit.specs.Witness.{position-below, place-position}
 use Rattle.circuit.specs.RightlyLent.{RightCircuit, selectors-right, labels-right, at-none, bound}
 use Rattle.text.specs.Text.{isLineAt, lineOf}
-use Rattle.sheet.specs.Sheet.{sheetRows, fieldsDue, linesDue, lineAt, numberOf, sheetP, sheetN, sheetL, badLine, isExtra, onSelectors, onLabels, onWitness, onPublics, onChallenges, sheetElements, readAnswer}
+use Rattle.sheet.specs.Sheet.{sheetRows, challengeCount, labelField, fieldsDue, linesDue, lineAt, numberOf, sheetP, sheetN, sheetL, badLine, isExtra, onSelectors, onLabels, onWitness, onPublics, onChallenges, sheetElements, readAnswer}
 use Rattle.sheet.specs.Written.{column, circuitLine, witnessLine, publicLine, sheetText, Small, Right}
 use Rattle.sheet.specs.Due.{picked, some-due}
 use Rattle.sheet.specs.Fits.{circuit-long}
@@ -46,7 +46,7 @@ pub record SheetBack (s : List ℕ) (p n l : ℕ) (selectors labels witness publ
   pub labels-are : tab (onLabels s n l) (labelsLength n) ≡ labels
   pub witness-is : tab (onWitness s n l) (witnessLength n) ≡ witness
   pub publics-are : tab (onPublics s n l) l ≡ publics
-  pub challenges-are : tab (onChallenges s n l) 4 ≡ challenges
+  pub challenges-are : tab (onChallenges s n l) challengeCount ≡ challenges
 
 -- a word of a list of numbers below 2^32, and 0 behind its end
 word-small : (xs : List ℕ) (k : ℕ) → Small xs → getD xs k 0 < 4294967296
@@ -117,8 +117,8 @@ module _ (p n l : ℕ) (selectors labels witness publics challenges : List ℕ) 
     line-small i =
         picked Small (eqb i 0) (right .first-small)
         (picked Small (leb i n)
-        (all-append (λ (x : ℕ). x < 4294967296) (tab (column n selectors (i - 1)) 5) (tab (column n labels (i - 1)) 3)
-        (all-tab (λ (x : ℕ). x < 4294967296) (column n selectors (i - 1)) 5 (λ c h. word-small selectors (c * n + (i - 1)) (right .selectors-small)))
+        (all-append (λ (x : ℕ). x < 4294967296) (tab (column n selectors (i - 1)) selectorCount) (tab (column n labels (i - 1)) 3)
+        (all-tab (λ (x : ℕ). x < 4294967296) (column n selectors (i - 1)) selectorCount (λ c h. word-small selectors (c * n + (i - 1)) (right .selectors-small)))
         (all-tab (λ (x : ℕ). x < 4294967296) (column n labels (i - 1)) 3 (λ c h. word-small labels (c * n + (i - 1)) (right .labels-small))))
         (picked Small (leb i (n + n))
         (all-tab (λ (x : ℕ). x < 4294967296) _ 3 (λ c h. word-small witness (witnessPlace n (position n c (i - (n + 1)))) (right .witness-small)))
@@ -159,20 +159,20 @@ module _ (p n l : ℕ) (selectors labels witness publics challenges : List ℕ) 
 
     selectors-back : (k : ℕ) → k < selectorsLength n → onSelectors lines n l k ≡ getD selectors k 0
     selectors-back k h =
-        let a = row k 5 h in
-        let b = col k 5 h in
+        let a = row k selectorCount h in
+        let b = col k selectorCount h in
         number (suc (k % n)) (k / n) (circuitLine n selectors labels (k % n)) (omega arith) (line-circuit (suc (k % n)) (k % n) (omega arith) a) (omega (arith, circuit-long n selectors labels (k % n)))
-        ∙ List·getD-append (tab (column n selectors (k % n)) 5) (tab (column n labels (k % n)) 3) 0 (k / n) (omega (arith, length-tab (column n selectors (k % n)) 5))
-        ∙ getD-tab (column n selectors (k % n)) 5 (k / n) b
+        ∙ List·getD-append (tab (column n selectors (k % n)) selectorCount) (tab (column n labels (k % n)) 3) 0 (k / n) (omega (arith, length-tab (column n selectors (k % n)) selectorCount))
+        ∙ getD-tab (column n selectors (k % n)) selectorCount (k / n) b
         ∙ back-column selectors k
 
     labels-back : (k : ℕ) → k < labelsLength n → onLabels lines n l k ≡ getD labels k 0
     labels-back k h =
         let a = row k 3 h in
         let b = col k 3 h in
-        number (suc (k % n)) (5 + k / n) (circuitLine n selectors labels (k % n)) (omega arith) (line-circuit (suc (k % n)) (k % n) (omega arith) a) (omega (arith, circuit-long n selectors labels (k % n)))
-        ∙ ap (λ (m : ℕ). getD (circuitLine n selectors labels (k % n)) (m + k / n) 0) (sym (length-tab (column n selectors (k % n)) 5))
-        ∙ getD-append-add (tab (column n selectors (k % n)) 5) (tab (column n labels (k % n)) 3) (k / n) 0
+        number (suc (k % n)) (labelField + k / n) (circuitLine n selectors labels (k % n)) (omega arith) (line-circuit (suc (k % n)) (k % n) (omega arith) a) (omega (arith, circuit-long n selectors labels (k % n)))
+        ∙ ap (λ (m : ℕ). getD (circuitLine n selectors labels (k % n)) (m + k / n) 0) (sym (length-tab (column n selectors (k % n)) selectorCount))
+        ∙ getD-append-add (tab (column n selectors (k % n)) selectorCount) (tab (column n labels (k % n)) 3) (k / n) 0
         ∙ getD-tab (column n labels (k % n)) 3 (k / n) b
         ∙ back-column labels k
 
@@ -193,7 +193,7 @@ module _ (p n l : ℕ) (selectors labels witness publics challenges : List ℕ) 
     publics-back k h =
         number (n + n + suc k) 0 (publicLine publics k) (omega arith) (line-public (n + n + suc k) k (omega arith) h) (omega arith)
 
-    challenges-back : (k : ℕ) → k < 4 → onChallenges lines n l k ≡ getD challenges k 0
+    challenges-back : (k : ℕ) → k < challengeCount → onChallenges lines n l k ≡ getD challenges k 0
     challenges-back k h =
         number (n + n + l + 1) k challenges (omega arith) (line-last (n + n + l + 1) refl) (omega (arith, right .challenges-long))
 
@@ -221,7 +221,7 @@ module _ (p n l : ℕ) (selectors labels witness publics challenges : List ℕ) 
           labels-are = list-back (onLabels lines n l) labels (labelsLength n) (right .labels-long) labels-back;
           witness-is = list-back (onWitness lines n l) witness (witnessLength n) (right .witness-long) witness-back;
           publics-are = list-back (onPublics lines n l) publics l (right .publics-long) publics-back;
-          challenges-are = list-back (onChallenges lines n l) challenges 4 (right .challenges-long) challenges-back;
+          challenges-are = list-back (onChallenges lines n l) challenges challengeCount (right .challenges-long) challenges-back;
         }
 
     pub sheet-back : SheetBack (sheetText p n l selectors labels witness publics challenges) p n l selectors labels witness publics challenges

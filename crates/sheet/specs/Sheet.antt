@@ -1,8 +1,11 @@
 -- The sheet (document 01, "The sheet"): which bytes are one, and the numbers that stand on it. Lines count from 0 here.
 --
 -- sheetRows            the greatest number of rows on a sheet; the lent buffers have the lengths that so many rows need
+-- challengeCount       the challenges on a sheet
+-- labelField           the fields before the labels on a gate line: its selectors
+-- gateFields           the fields of a gate line: those, and three labels
 -- LINES
--- fieldsDue n l i      how many numbers line i has: 3 on the first, then n lines of 8, n of 3, l of 1, and one of 4
+-- fieldsDue n l i      how many numbers line i has: 3 on the first, then those of n gate lines, n lines of 3, l of 1, and one of the challenges
 -- linesDue n l         how many lines there are
 -- lineAt s n l i       where line i starts
 -- numberOf s n l i j   number j of line i
@@ -38,18 +41,27 @@ use Rattle.algebra.specs.Modular.{first}
 use Rattle.field.specs.declared.Answer.{Answer}
 use Rattle.field.specs.Reasons.{Reason, answerOf, shapeReasons, badLengths, currentOnly}
 use Rattle.circuit.specs.Circuit.{witnessPosition}
-use Rattle.circuit.specs.Buffers.{selectorsLength, labelsLength, witnessLength}
+use Rattle.circuit.specs.Buffers.{selectorCount, selectorsLength, labelsLength, witnessLength}
 use Rattle.circuit.specs.Reasons.{numberReasons}
 use Rattle.text.specs.Text.{numberAt, fieldAt, isLineAt}
 
 abbrev pub sheetRows : ℕ
 sheetRows = 256
 
+abbrev pub challengeCount : ℕ
+challengeCount = 4
+
+abbrev pub labelField : ℕ
+labelField = selectorCount
+
+abbrev pub gateFields : ℕ
+gateFields = labelField + 3
+
 -- LINES
 
 unfoldable pub fieldsDue : ℕ → ℕ → ℕ → ℕ
 fieldsDue n l i =
-    cond (eqb i 0) 3 (cond (leb i n) 8 (cond (leb i (n + n)) 3 (cond (leb i (n + n + l)) 1 4)))
+    cond (eqb i 0) 3 (cond (leb i n) gateFields (cond (leb i (n + n)) 3 (cond (leb i (n + n + l)) 1 challengeCount)))
 
 abbrev pub linesDue : ℕ → ℕ → ℕ
 linesDue n l = n + n + l + 2
@@ -84,7 +96,7 @@ abbrev pub onSelectors : List ℕ → ℕ → ℕ → ℕ → ℕ
 onSelectors s n l k = numberOf s n l (suc (k % n)) (k / n)
 
 abbrev pub onLabels : List ℕ → ℕ → ℕ → ℕ → ℕ
-onLabels s n l k = numberOf s n l (suc (k % n)) (5 + k / n)
+onLabels s n l k = numberOf s n l (suc (k % n)) (labelField + k / n)
 
 -- the witness is lent row by row: number j is the wire value of the position that stands there, of which k / n and k % n are column and row
 abbrev pub onWitness : List ℕ → ℕ → ℕ → ℕ → ℕ
@@ -109,7 +121,7 @@ tooLong s = ltb 65536 (length s)
 -- the elements in the order of 7: selectors, witness, public inputs, challenges
 abbrev pub sheetElements : List ℕ → ℕ → ℕ → List ℕ
 sheetElements s n l =
-    tab (onSelectors s n l) (selectorsLength n) ++ (tab (onWitness s n l) (witnessLength n) ++ (tab (onPublics s n l) l ++ tab (onChallenges s n l) 4))
+    tab (onSelectors s n l) (selectorsLength n) ++ (tab (onWitness s n l) (witnessLength n) ++ (tab (onPublics s n l) l ++ tab (onChallenges s n l) challengeCount))
 
 abbrev pub badFirst : List ℕ → Reason
 badFirst s = record { number = 1; detail = 0; applies = tooLong s || not (isLineAt s 0 3) }
@@ -124,7 +136,7 @@ lineReasons s n l =
 -- sheet, selectors, labels, witness, public inputs, challenges. The sheet has whatever length it has, so the first place never differs
 abbrev pub sheetDue : ℕ → List ℕ
 sheetDue bytes =
-    bytes ∷ selectorsLength sheetRows ∷ labelsLength sheetRows ∷ witnessLength sheetRows ∷ sheetRows ∷ 4 ∷ []
+    bytes ∷ selectorsLength sheetRows ∷ labelsLength sheetRows ∷ witnessLength sheetRows ∷ sheetRows ∷ challengeCount ∷ []
 
 abbrev pub sheetNumbers : List ℕ → ℕ → ℕ → ℕ → List Reason
 sheetNumbers s p n l =

@@ -1,5 +1,9 @@
--- The table of a sheet's numbers, which the reader fills before it lays them out: 8 words for each line.
+-- The table of a sheet's numbers, which the reader fills before it lays them out, line after line.
 --
+-- lineWords            the words of a line, the first of which are its numbers: no line has more
+-- tableLines           the lines: no sheet has more
+-- tableLength          the words of the table
+-- tablePlace i j       where field j of line i stands
 -- byColumns n line field count   a block of the table that is lent column after column: `count` numbers of n lines, from this line and this field on
 -- byRows width line count         one that is lent row by row: `count` numbers of lines of `width` fields, from this line on
 -- selectorsBlock, labelsBlock, witnessBlock, publicsBlock, challengesBlock   the blocks that are lent
@@ -21,19 +25,31 @@ use lib.ListN.{length, getD}
 use Rattle.algebra.specs.Lists.{tab}
 use Rattle.circuit.specs.Buffers.{selectorsLength, labelsLength, witnessLength}
 use Rattle.sheet.specs.declared.blocks.Block.{Block}
-use Rattle.sheet.specs.Sheet.{sheetRows, fieldsDue, lineAt, numberOf, padded}
+use Rattle.sheet.specs.Sheet.{sheetRows, challengeCount, labelField, fieldsDue, lineAt, numberOf, padded}
+
+abbrev pub lineWords : ℕ
+lineWords = 8
+
+abbrev pub tableLines : ℕ
+tableLines = 770
+
+abbrev pub tableLength : ℕ
+tableLength = lineWords * tableLines
+
+abbrev pub tablePlace : ℕ → ℕ → ℕ
+tablePlace i j = lineWords * i + j
 
 abbrev pub byColumns : (n line field count : ℕ) → Block
-byColumns n line field count = record { start = 8 * line + field; run = n; step = 8; leap = 1; count = count }
+byColumns n line field count = record { start = tablePlace line field; run = n; step = lineWords; leap = 1; count = count }
 
 abbrev pub byRows : (width line count : ℕ) → Block
-byRows width line count = record { start = 8 * line; run = width; step = 1; leap = 8; count = count }
+byRows width line count = record { start = tablePlace line 0; run = width; step = 1; leap = lineWords; count = count }
 
 abbrev pub selectorsBlock : ℕ → Block
 selectorsBlock n = byColumns n 1 0 (selectorsLength n)
 
 abbrev pub labelsBlock : ℕ → Block
-labelsBlock n = byColumns n 1 5 (labelsLength n)
+labelsBlock n = byColumns n 1 labelField (labelsLength n)
 
 abbrev pub witnessBlock : ℕ → Block
 witnessBlock n = byRows 3 (n + 1) (witnessLength n)
@@ -42,7 +58,7 @@ abbrev pub publicsBlock : ℕ → ℕ → Block
 publicsBlock n l = byRows 1 (n + n + 1) l
 
 abbrev pub challengesBlock : ℕ → ℕ → Block
-challengesBlock n l = byRows 4 (n + n + l + 1) 4
+challengesBlock n l = byRows challengeCount (n + n + l + 1) challengeCount
 
 abbrev pub placeIn : Block → ℕ → ℕ
 placeIn B k = B .start + B .step * (k % B .run) + B .leap * (k / B .run)
@@ -67,16 +83,16 @@ challengesIn t n l = inTable t (challengesBlock n l)
 
 abbrev pub tableElements : ℕ → ℕ → List ℕ → List ℕ
 tableElements n l t =
-    tab (selectorsIn t n) (selectorsLength n) ++ (tab (witnessIn t n) (witnessLength n) ++ (tab (publicsIn t n l) l ++ tab (challengesIn t n l) 4))
+    tab (selectorsIn t n) (selectorsLength n) ++ (tab (witnessIn t n) (witnessLength n) ++ (tab (publicsIn t n l) l ++ tab (challengesIn t n l) challengeCount))
 
 pub record Held (s : List ℕ) (n l m : ℕ) (t : List ℕ) : Type 0 where
-  pub number : (i j : ℕ) → 0 < i → i < m → j < fieldsDue n l i → getD t (8 * i + j) 0 ≡ numberOf s n l i j
+  pub number : (i j : ℕ) → 0 < i → i < m → j < fieldsDue n l i → getD t (tablePlace i j) 0 ≡ numberOf s n l i j
 
 pub record Full (n l : ℕ) (t : List ℕ) : Type 0 where
   pub some : 0 < n
   pub few : n ≤ sheetRows
   pub publics : l ≤ n
-  pub long : length t ≡ 6160
+  pub long : length t ≡ tableLength
 
 pub record Begins (s : List ℕ) (n l at : ℕ) (t : List ℕ) : Type 0 where
   pub full : Full n l t
@@ -93,11 +109,11 @@ pub record Room (selectors labels witness publics challenges : List ℕ) : Type 
   pub labels-long : length labels ≡ labelsLength sheetRows
   pub witness-long : length witness ≡ witnessLength sheetRows
   pub publics-long : length publics ≡ sheetRows
-  pub challenges-long : length challenges ≡ 4
+  pub challenges-long : length challenges ≡ challengeCount
 
 pub record Laid (n l : ℕ) (t selectors labels witness publics challenges : List ℕ) : Type 0 where
   pub selectors-laid : selectors ≡ padded (selectorsLength sheetRows) (selectorsIn t n) (selectorsLength n)
   pub labels-laid : labels ≡ padded (labelsLength sheetRows) (labelsIn t n) (labelsLength n)
   pub witness-laid : witness ≡ padded (witnessLength sheetRows) (witnessIn t n) (witnessLength n)
   pub publics-laid : publics ≡ padded sheetRows (publicsIn t n l) l
-  pub challenges-laid : challenges ≡ padded 4 (challengesIn t n l) 4
+  pub challenges-laid : challenges ≡ padded challengeCount (challengesIn t n l) challengeCount

@@ -17,14 +17,14 @@ use Rattle.algebra.specs.Ends.{run-room}
 use Rattle.algebra.specs.Lists.{tab}
 use Rattle.algebra.specs.Tables.{length-tab, getD-tab, tab-ext}
 use Rattle.circuit.specs.Circuit.{position, witnessPosition, isPublicRow, lentConstraints, lentWitness, laidWitness}
-use Rattle.circuit.specs.Buffers.{selectorsLength, labelsLength, witnessLength}
+use Rattle.circuit.specs.Buffers.{selectorCount, selectorsLength, labelsLength, witnessLength}
 use Rattle.circuit.specs.Positions.{position-column, position-row}
 use Rattle.circuit.specs.Witness.{lent-laid}
 use Rattle.circuit.specs.Reasons.{unboundRow}
 use Rattle.circuit.specs.Selectors.{isPublicAt, unboundIn, unbound-same}
-use Rattle.sheet.specs.Sheet.{fieldsDue, linesDue, numberOf, onSelectors, onLabels, onWitness, onPublics, onChallenges, sheetElements}
+use Rattle.sheet.specs.Sheet.{challengeCount, labelField, fieldsDue, linesDue, numberOf, onSelectors, onLabels, onWitness, onPublics, onChallenges, sheetElements}
 use Rattle.sheet.specs.Due.{due-circuit, due-witness, due-publics, due-challenges}
-use Rattle.sheet.specs.Table.{selectorsBlock, placeIn, Full, Held, selectorsIn, labelsIn, witnessIn, publicsIn, challengesIn, tableElements}
+use Rattle.sheet.specs.Table.{lineWords, tablePlace, selectorsBlock, placeIn, Full, Held, selectorsIn, labelsIn, witnessIn, publicsIn, challengesIn, tableElements}
 
 pub on-position : (s : List ℕ) (n l c i : ℕ) → c < 3 → i < n → lentWitness n (tab (onWitness s n l) (witnessLength n)) (position n c i) ≡ numberOf s n l (n + suc i) c
 unfolding laidWitness
@@ -40,20 +40,20 @@ module _ (s : List ℕ) (n l : ℕ) (t : List ℕ) (full : Full n l t) (held : H
   column k c h = div-lt-iff-lt-mul {x = k} {y = c} (full .some) .1 h
 
   -- the word at a place that is field j of line i
-  word : (place i j : ℕ) → place ≡ 8 * i + j → 0 < i → i < linesDue n l → j < fieldsDue n l i → getD t place 0 ≡ numberOf s n l i j
+  word : (place i j : ℕ) → place ≡ tablePlace i j → 0 < i → i < linesDue n l → j < fieldsDue n l i → getD t place 0 ≡ numberOf s n l i j
   word place i j e g h f = ap (λ (m : ℕ). getD t m 0) e ∙ held .number i j g h f
 
   pub selectors-same : (k : ℕ) → k < selectorsLength n → selectorsIn t n k ≡ onSelectors s n l k
   selectors-same k h =
       let a = row k in
-      let b = column k 5 h in
+      let b = column k selectorCount h in
       word _ (suc (k % n)) (k / n) (omega arith) (omega arith) (omega arith) (omega (arith, due-circuit n l (suc (k % n)) (omega arith) (omega arith)))
 
   pub labels-same : (k : ℕ) → k < labelsLength n → labelsIn t n k ≡ onLabels s n l k
   labels-same k h =
       let a = row k in
       let b = column k 3 h in
-      word _ (suc (k % n)) (5 + k / n) (omega arith) (omega arith) (omega arith) (omega (arith, due-circuit n l (suc (k % n)) (omega arith) (omega arith)))
+      word _ (suc (k % n)) (labelField + k / n) (omega arith) (omega arith) (omega arith) (omega (arith, due-circuit n l (suc (k % n)) (omega arith) (omega arith)))
 
   -- column and row of the position at place j of the witness are j % 3 and j / 3
   pub witness-same : (j : ℕ) → j < witnessLength n → witnessIn t n j ≡ onWitness s n l j
@@ -71,10 +71,10 @@ module _ (s : List ℕ) (n l : ℕ) (t : List ℕ) (full : Full n l t) (held : H
       let b : k / 1 ≡ k = div-one k in
       word _ (n + n + suc k) 0 (omega arith) (omega arith) (omega arith) (omega (arith, due-publics n l (n + n + suc k) (omega arith) (omega arith)))
 
-  pub challenges-same : (k : ℕ) → k < 4 → challengesIn t n l k ≡ onChallenges s n l k
+  pub challenges-same : (k : ℕ) → k < challengeCount → challengesIn t n l k ≡ onChallenges s n l k
   challenges-same k h =
-      let a : k % 4 ≡ k = mod-eq-of-lt h in
-      let b : k / 4 ≡ 0 = div-eq-of-lt h in
+      let a : k % challengeCount ≡ k = mod-eq-of-lt h in
+      let b : k / challengeCount ≡ 0 = div-eq-of-lt h in
       word _ (n + n + l + 1) k (omega arith) (omega arith) (omega arith) (omega (arith, due-challenges n l (n + n + l + 1) (omega arith)))
 
   pub selectors-list-same : tab (selectorsIn t n) (selectorsLength n) ≡ tab (onSelectors s n l) (selectorsLength n)
@@ -85,37 +85,37 @@ module _ (s : List ℕ) (n l : ℕ) (t : List ℕ) (full : Full n l t) (held : H
       ap₂ (λ (a b : List ℕ). a ++ b) selectors-list-same
       (ap₂ (λ (a b : List ℕ). a ++ b) (tab-ext (witnessIn t n) (onWitness s n l) (witnessLength n) witness-same)
       (ap₂ (λ (a b : List ℕ). a ++ b) (tab-ext (publicsIn t n l) (onPublics s n l) l publics-same)
-      (tab-ext (challengesIn t n l) (onChallenges s n l) 4 challenges-same)))
+      (tab-ext (challengesIn t n l) (onChallenges s n l) challengeCount challenges-same)))
 
   pub labels-list-same : tab (labelsIn t n) (labelsLength n) ≡ tab (onLabels s n l) (labelsLength n)
   labels-list-same = tab-ext (labelsIn t n) (onLabels s n l) (labelsLength n) labels-same
 
-pub elements-long : (n l : ℕ) (t : List ℕ) → length (tableElements n l t) ≡ selectorsLength n + witnessLength n + l + 4
+pub elements-long : (n l : ℕ) (t : List ℕ) → length (tableElements n l t) ≡ selectorsLength n + witnessLength n + l + challengeCount
 elements-long n l t =
     simp (length-append, length-tab) (omega arith)
 
 module _ (n : ℕ) (t : List ℕ) where
-  selector-word : (s i : ℕ) → s < 5 → i < n → getD t (8 * suc i + s) 0 ≡ getD (tab (selectorsIn t n) (selectorsLength n)) (position n s i) 0
+  selector-word : (s i : ℕ) → s < selectorCount → i < n → getD t (tablePlace (suc i) s) 0 ≡ getD (tab (selectorsIn t n) (selectorsLength n)) (position n s i) 0
   selector-word s i h k =
-      let place : 8 * suc i + s ≡ placeIn (selectorsBlock n) (position n s i) =
+      let place : tablePlace (suc i) s ≡ placeIn (selectorsBlock n) (position n s i) =
       omega (arith, position-row n s i k, position-column n s i k) in
       ap (λ (m : ℕ). getD t m 0) place
-      ∙ sym (getD-tab (selectorsIn t n) (selectorsLength n) (position n s i) (omega (arith, run-room s 5 n h)))
+      ∙ sym (getD-tab (selectorsIn t n) (selectorsLength n) (position n s i) (omega (arith, run-room s selectorCount n h)))
 
   pub unbound-table : (l : ℕ) (labels : List ℕ) → l ≤ n
-      → unboundIn t 8 8 1 l ≡ unboundRow (lentConstraints n (tab (selectorsIn t n) (selectorsLength n)) labels) l
-  unbound-table l labels few = unbound-same t 8 8 1 l (lentConstraints n (tab (selectorsIn t n) (selectorsLength n)) labels) row
+      → unboundIn t (tablePlace 1 0) lineWords 1 l ≡ unboundRow (lentConstraints n (tab (selectorsIn t n) (selectorsLength n)) labels) l
+  unbound-table l labels few = unbound-same t (tablePlace 1 0) lineWords 1 l (lentConstraints n (tab (selectorsIn t n) (selectorsLength n)) labels) row
     where
-      at : (s i k : ℕ) → s < 5 → i < l → k ≡ 8 * suc i + s → getD t k 0 ≡ getD (tab (selectorsIn t n) (selectorsLength n)) (position n s i) 0
+      at : (s i k : ℕ) → s < selectorCount → i < l → k ≡ tablePlace (suc i) s → getD t k 0 ≡ getD (tab (selectorsIn t n) (selectorsLength n)) (position n s i) 0
       at s i k h g e = ap (λ (m : ℕ). getD t m 0) e ∙ selector-word s i h (omega arith)
 
       row : (i : ℕ) → i < l
-          → isPublicAt t 1 (8 + i * 8) ≡ isPublicRow (lentConstraints n (tab (selectorsIn t n) (selectorsLength n)) labels) i
+          → isPublicAt t 1 (tablePlace 1 0 + i * lineWords) ≡ isPublicRow (lentConstraints n (tab (selectorsIn t n) (selectorsLength n)) labels) i
       row i h =
           rw (
-            at 0 i (8 + i * 8) (omega arith) h (omega arith),
-            at 1 i (8 + i * 8 + 1) (omega arith) h (omega arith),
-            at 2 i (8 + i * 8 + 2 * 1) (omega arith) h (omega arith),
-            at 3 i (8 + i * 8 + 3 * 1) (omega arith) h (omega arith),
-            at 4 i (8 + i * 8 + 4 * 1) (omega arith) h (omega arith),
+            at 0 i (tablePlace 1 0 + i * lineWords) (omega arith) h (omega arith),
+            at 1 i (tablePlace 1 0 + i * lineWords + 1) (omega arith) h (omega arith),
+            at 2 i (tablePlace 1 0 + i * lineWords + 2 * 1) (omega arith) h (omega arith),
+            at 3 i (tablePlace 1 0 + i * lineWords + 3 * 1) (omega arith) h (omega arith),
+            at 4 i (tablePlace 1 0 + i * lineWords + 4 * 1) (omega arith) h (omega arith),
           )

@@ -1,4 +1,4 @@
--- The sheet that is written from numbers, in document 01's format: the first line p,n,l; then n lines of five selectors and three labels, n
+-- The sheet that is written from numbers, in document 01's format: the first line p,n,l; then n lines of selectors and three labels, n
 -- lines of wire values, l lines of one public input, and the challenges. The numbers are given as they are lent.
 --
 -- column n xs row c   the number in a column and row of a buffer that is lent column after column
@@ -15,14 +15,15 @@ use lib.ListN.{length, getD}
 use Rattle.algebra.specs.Lists.{tab, All}
 use Rattle.transform.specs.Parts.{laid}
 use Rattle.circuit.specs.Circuit.{position, lentWitness}
-use Rattle.circuit.specs.Buffers.{selectorsLength, labelsLength, witnessLength}
+use Rattle.circuit.specs.Buffers.{selectorCount, selectorsLength, labelsLength, witnessLength}
 use Rattle.text.specs.Text.{lineOf}
+use Rattle.sheet.specs.Sheet.{challengeCount}
 
 abbrev pub column : ℕ → List ℕ → ℕ → ℕ → ℕ
 column n xs row c = getD xs (c * n + row) 0
 
 abbrev pub circuitLine : ℕ → List ℕ → List ℕ → ℕ → List ℕ
-circuitLine n selectors labels row = tab (column n selectors row) 5 ++ tab (column n labels row) 3
+circuitLine n selectors labels row = tab (column n selectors row) selectorCount ++ tab (column n labels row) 3
 
 abbrev pub witnessLine : ℕ → List ℕ → ℕ → List ℕ
 witnessLine n witness row = tab (λ c. lentWitness n witness (position n c row)) 3
@@ -52,4 +53,4 @@ pub record Right (p n l : ℕ) (selectors labels witness publics challenges : Li
   pub publics-small : Small publics
   pub publics-long : length publics ≡ l
   pub challenges-small : Small challenges
-  pub challenges-long : length challenges ≡ 4
+  pub challenges-long : length challenges ≡ challengeCount

@@ -1,8 +1,10 @@
-// The blocks of the table: which of its words are the numbers of a lent buffer, in the order in which they are lent. The table has 8 words for each line.
+// The blocks of the table: which of its words are the numbers of a lent buffer, in the order in which they are lent.
 ghost use mathlib.Core.Path.{_≡_};
 ghost use Prim.Native.Nat.{_≤_, _<_};
 ghost use Rattle.sheet.specs.Sheet.{sheetRows};
-ghost use Rattle.sheet.specs.Table.{byColumns, byRows, selectorsBlock, labelsBlock, witnessBlock, publicsBlock, challengesBlock};
+ghost use Rattle.sheet.specs.Table.{lineWords, tableLines, byColumns, byRows, selectorsBlock, labelsBlock, witnessBlock, publicsBlock, challengesBlock};
+use super::table::LINE_WORDS;
+use super::table::table_place;
 
 // Number k, of `count` numbers, is word start + step × (k % run) + leap × (k / run).
 pub struct Block {
@@ -15,13 +17,13 @@ pub struct Block {
 
 // Column after column, of n lines: from a number to the next it goes a line down.
 fn by_columns(n: usize, line: usize, field: usize, count: usize) -> Block
-    requires { ⌜ (line < 770) × (field < 8) ⌝ }
+    requires { ⌜ (line < tableLines) × (field < lineWords) ⌝ }
     ensures { λ r. ⌜ r ≡ byColumns n line field count ⌝ }
 {
     Block {
-        start: 8 * line + field,
+        start: table_place(line, field),
         run: n,
-        step: 8,
+        step: LINE_WORDS,
         leap: 1,
         count,
     }
@@ -29,14 +31,14 @@ fn by_columns(n: usize, line: usize, field: usize, count: usize) -> Block
 
 // Row by row, of lines of `width` numbers: from a number to the next it goes a field on.
 fn by_rows(width: usize, line: usize, count: usize) -> Block
-    requires { ⌜ line < 770 ⌝ }
+    requires { ⌜ line < tableLines ⌝ }
     ensures { λ r. ⌜ r ≡ byRows width line count ⌝ }
 {
     Block {
-        start: 8 * line,
+        start: table_place(line, 0),
         run: width,
         step: 1,
-        leap: 8,
+        leap: LINE_WORDS,
         count,
     }
 }
@@ -52,7 +54,7 @@ pub fn labels(n: usize) -> Block
     requires { ⌜ n ≤ sheetRows ⌝ }
     ensures { λ r. ⌜ r ≡ labelsBlock n ⌝ }
 {
-    by_columns(n, 1, 5, circuit::labels_length(n))
+    by_columns(n, 1, super::LABEL_FIELD, circuit::labels_length(n))
 }
 
 pub fn witness(n: usize) -> Block
@@ -73,5 +75,9 @@ pub fn challenges(n: usize, l: usize) -> Block
     requires { ⌜ (n ≤ sheetRows) × (l ≤ n) ⌝ }
     ensures { λ r. ⌜ r ≡ challengesBlock n l ⌝ }
 {
-    by_rows(4, n + n + l + 1, 4)
+    by_rows(
+        super::CHALLENGE_COUNT,
+        n + n + l + 1,
+        super::CHALLENGE_COUNT,
+    )
 }

@@ -7,7 +7,7 @@ ghost use lib.ListN.{length};
 ghost use Rattle.algebra.specs.Lists.{tab};
 ghost use Rattle.field.specs.Reasons.{firstAbove};
 ghost use Rattle.circuit.specs.Buffers.{selectorsLength, labelsLength, witnessLength};
-ghost use Rattle.sheet.specs.Sheet.{sheetRows, padded};
+ghost use Rattle.sheet.specs.Sheet.{sheetRows, challengeCount, padded};
 ghost use Rattle.sheet.specs.Table.{inTable, selectorsIn, labelsIn, witnessIn, publicsIn, challengesIn, Fits, Full, Room, Laid};
 use super::blocks;
 use super::blocks::Block;
@@ -86,10 +86,10 @@ fn lay_filling(
     publics: &mut [u32],
     challenges: &mut [u32],
 )
-    requires { ⌜ Full n l (now table) × (length (now witness) ≡ witnessLength sheetRows) × (length (now publics) ≡ sheetRows) × (length (now challenges) ≡ 4) ⌝ }
+    requires { ⌜ Full n l (now table) × (length (now witness) ≡ witnessLength sheetRows) × (length (now publics) ≡ sheetRows) × (length (now challenges) ≡ challengeCount) ⌝ }
     ensures { λ _. ⌜ now (witness .exit) ≡ padded (witnessLength sheetRows) (witnessIn (now (table .entry)) n) (witnessLength n) ⌝ }
     ensures { λ _. ⌜ now (publics .exit) ≡ padded sheetRows (publicsIn (now (table .entry)) n l) l ⌝ }
-    ensures { λ _. ⌜ now (challenges .exit) ≡ padded 4 (challengesIn (now (table .entry)) n l) 4 ⌝ }
+    ensures { λ _. ⌜ now (challenges .exit) ≡ padded challengeCount (challengesIn (now (table .entry)) n l) challengeCount ⌝ }
 {
     lay(table, blocks::witness(n), witness);
     lay(table, blocks::publics(n, l), publics);

@@ -13,9 +13,12 @@ mod laying;
 mod lines;
 mod numbers;
 mod reasons;
+mod table;
 
 pub use first::decide_prime;
 pub use reasons::decide;
+pub use table::table_place;
+pub use table::table_room;
 
 // The answer of `read`: p, n and l are 0 if refused.
 pub struct SheetAnswer {
@@ -28,12 +31,14 @@ pub struct SheetAnswer {
 // The greatest number of rows on a sheet.
 pub const ROWS: u32 = 256;
 
-// Room for the table of a sheet's numbers: 8 words for each of the 770 lines that ROWS rows and as many public inputs have.
-pub fn table_room() -> [u32; 6160]
-    ensures { λ r. ⌜ 6160 ≡ length r ⌝ }
-{
-    [0; 6160]
-}
+// The challenges on a sheet.
+pub const CHALLENGE_COUNT: usize = 4;
+
+// The fields before the labels on a gate line: its selectors.
+pub const LABEL_FIELD: usize = circuit::SELECTOR_COUNT;
+
+// The fields of a gate line: those, and three labels.
+pub const GATE_FIELDS: usize = LABEL_FIELD + 3;
 
 // One byte more than a sheet may have, for a program that reads one: input that fills it is too long, however much follows.
 pub fn sheet_room() -> [u8; 65537]
@@ -53,7 +58,7 @@ pub fn read(
 ) -> SheetAnswer
     ensures { λ r. ⌜ Reads (now (sheet .entry)) (now (selectors .entry)) (now (labels .entry)) (now (witness .entry)) (now (publics .entry)) (now (challenges .entry)) r (now (selectors .exit)) (now (labels .exit)) (now (witness .exit)) (now (publics .exit)) (now (challenges .exit)) ⌝ }
 {
-    let k = 6160;
+    let k = table::TABLE_LENGTH;
     let mut table = table_room();
     let long = [
         sheet.len(),

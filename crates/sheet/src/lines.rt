@@ -1,4 +1,4 @@
-// The lines behind the first one, read into a table of 8 words a line.
+// The lines behind the first one, read into the table.
 ghost use mathlib.Core.Path.{_≡_};
 ghost use Prim.Native.Nat.{_≤_};
 ghost use Rattle.sheet.specs.Sheet.{sheetRows, fieldsDue, linesDue, lineAt, badLine, lineReasons};
@@ -21,7 +21,7 @@ fn fields_due(n: usize, l: usize, i: usize) -> usize
         return 3;
     }
     if i <= n {
-        return 8;
+        return super::GATE_FIELDS;
     }
     if i <= n + n {
         return 3;
@@ -29,7 +29,7 @@ fn fields_due(n: usize, l: usize, i: usize) -> usize
     if i <= n + n + l {
         return 1;
     }
-    4
+    super::CHALLENGE_COUNT
 }
 
 // Reads line after line from line 1 on, which starts at `start`, up to the first that is missing or out of form.
@@ -43,8 +43,8 @@ fn read_lines(s: &[u8], n: usize, l: usize, start: usize, table: &mut [u32]) -> 
     let mut i = 1;
     while i < due {
         let k = fields_due(n, l, i);
-        let from = 8 * i;
-        let to = from + k;
+        let from = super::table_place(i, 0);
+        let to = super::table_place(i, k);
         let line = text::line(s, at, &mut table[from..to]);
         if !line.ok {
             return Lines { bad: i, next: at };

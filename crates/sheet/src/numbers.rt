@@ -33,8 +33,9 @@ fn decide_circuit(n: usize, l: usize, table: &[u32]) -> Answer
     if number != 0 {
         return answer;
     }
-    // row i's selectors are the first five words of line i + 1
-    let row = circuit::unbound_row(table, 8, 8, 1, l);
+    // row i's selectors are the first words of line i + 1
+    let start = super::table_place(1, 0);
+    let row = circuit::unbound_row(table, start, super::table::LINE_WORDS, 1, l);
     field::decide_at(14, row, l)
 }
 
@@ -44,7 +45,10 @@ pub fn decide_numbers(p: u32, n: usize, l: usize, table: &[u32]) -> Answer
     ensures { λ r. ⌜ r ≡ answerOf (tableNumbers p n l (now (table .entry))) ⌝ }
 {
     let at = elements(p, n, l, table);
-    let count = circuit::selectors_length(n) + circuit::witness_length(n) + l + 4;
+    let count = circuit::selectors_length(n)
+        + circuit::witness_length(n)
+        + l
+        + super::CHALLENGE_COUNT;
     let answer = field::decide_at(7, at, count);
     let number = answer.number;
     if number != 0 {

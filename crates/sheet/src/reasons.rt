@@ -5,7 +5,7 @@ ghost use Prim.Native.Nat.{_≤_};
 ghost use lib.ListN.{length};
 ghost use Rattle.field.specs.Reasons.{answerOf, badLengths};
 ghost use Rattle.sheet.specs.Sheet.{linesDue, sheetDue, behindReasons, readReasons};
-ghost use Rattle.sheet.specs.Table.{Held, Begins};
+ghost use Rattle.sheet.specs.Table.{tableLength, Held, Begins};
 ghost use Rattle.sheet.specs.Deciding.{Decides};
 use super::SheetAnswer;
 use field::Answer;
@@ -21,7 +21,7 @@ pub fn lengths_due(bytes: usize) -> [usize; 6]
         circuit::labels_length(rows),
         circuit::witness_length(rows),
         rows,
-        4,
+        super::CHALLENGE_COUNT,
     ]
 }
 
@@ -67,7 +67,7 @@ fn turned_down(answer: Answer) -> SheetAnswer
 
 // All reasons of a call that reads a sheet, in order, `long` being the lengths of the call's buffers, and `due` those due. The table is filled where none applies.
 pub fn decide(s: &[u8], table: &mut [u32], long: &[usize], due: &[usize]) -> SheetAnswer
-    requires { ⌜ (length (now table) ≡ 6160) × (length (now long) ≡ length (now due)) × (length (now due) ≤ 16) ⌝ }
+    requires { ⌜ (length (now table) ≡ tableLength) × (length (now long) ≡ length (now due)) × (length (now due) ≤ 16) ⌝ }
     ensures { λ r. ⌜ Decides (now (s .entry)) (readReasons (now (s .entry)) (badLengths (now (long .entry)) (now (due .entry)) ∷ [])) r (now (table .exit)) ⌝ }
 {
     let first = super::first::decide_first(s);

@@ -1,13 +1,14 @@
 -- Text that is put into a buffer, run after run.
 --
+-- fieldBytes                  the bytes of a number on a line, with that which stands before or behind it: at most ten digits, and one
 -- Puts at bytes out r out'    the bytes stand behind the first `at` bytes of the buffer, and r is where the next byte goes; what stands from r
 --                             on is not told
 -- puts-none, puts-byte, puts-both   no bytes; one byte; one run and then another
 -- word-turn                   a word, one byte more
 -- digits-none, digits-last, digits-more   the last digits of a number: none of them; one digit; those before the last one, and that one
--- length-fields               fields have at most 11 bytes each
--- length-line                 a line that begins with a word has the word, at most 11 bytes for each number, and byte 10
--- length-numbers              a line of numbers has at most 11 bytes for each
+-- length-fields               fields have at most fieldBytes bytes each
+-- length-line                 a line that begins with a word has the word, at most fieldBytes bytes for each number, and byte 10
+-- length-numbers              a line of numbers has at most fieldBytes bytes for each
 -- numbers-parts               a line of numbers: the first in decimal, the fields of the others, and byte 10
 -- fields-append, fields-more  the fields of two lists of numbers, and of one number more
 -- fields-none, fields-turn    no fields are put; one field more is
@@ -27,6 +28,9 @@ use borrow.Rule.Slice.PartMut.{putMid}
 use Rattle.algebra.specs.Ends.{rest-put}
 use Rattle.text.specs.Text.{decimalOf, decimal, fieldsText, lineText, fieldsOf, lineOf}
 use Rattle.text.specs.Decimal.{decimal-small, decimal-more, decimal-few}
+
+abbrev pub fieldBytes : ℕ
+fieldBytes = 11
 
 pub record Puts (at : ℕ) (bytes out : List ℕ) (r : ℕ) (out' : List ℕ) : Type 0 where
   pub place : r ≡ at + length bytes
@@ -62,16 +66,16 @@ pub digits-more : (m v : ℕ) → m ≢ 0 → 10 ≤ v → decimalOf m v ≡ dec
 digits-more zero v h l = absurd (h refl)
 digits-more (suc m) v h l = let e : suc m - 1 ≡ m = omega arith in rw e (decimal-more m v l)
 
-pub length-fields : (vs : List ℕ) → length (fieldsText vs) ≤ 11 * length vs
+pub length-fields : (vs : List ℕ) → length (fieldsText vs) ≤ fieldBytes * length vs
 unfolding fieldsText
 length-fields [] = omega arith
 length-fields (v ∷ vs) = omega (arith, length-append (decimal v) (fieldsText vs), decimal-few 10 v, length-fields vs)
 
-pub length-line : (word vs : List ℕ) → length (lineText word vs) ≤ length word + 11 * length vs + 1
+pub length-line : (word vs : List ℕ) → length (lineText word vs) ≤ length word + fieldBytes * length vs + 1
 length-line word vs =
     omega (arith, length-append word (fieldsText vs ++ (10 ∷ [])), length-append (fieldsText vs) (10 ∷ []), length-fields vs)
 
-pub length-numbers : (vs : List ℕ) → 0 < length vs → length (lineOf vs) ≤ 11 * length vs
+pub length-numbers : (vs : List ℕ) → 0 < length vs → length (lineOf vs) ≤ fieldBytes * length vs
 unfolding fieldsOf
 length-numbers [] h = absurd (omega arith)
 length-numbers (v ∷ vs) h =

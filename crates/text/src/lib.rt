@@ -164,7 +164,7 @@ fn close_of(k: usize, j: usize) -> u8
 
 // A line of as many numbers as `out` has words, which starts at `at`.
 pub fn line(s: &[u8], at: usize, out: &mut [u32]) -> ParsedLine
-    requires { ⌜ (at ≤ length (now s)) × (length (now s) ≤ 65536) × (0 < length (now out)) × (length (now out) ≤ 8) ⌝ }
+    requires { ⌜ (at ≤ length (now s)) × (length (now s) ≤ 65536) × (0 < length (now out)) ⌝ }
     ensures { λ r. ⌜ r .ok ≡ isLineAt (now (s .entry)) at (length (now (out .entry))) ⌝ }
     ensures { λ r. ⌜ (r .ok ≡ true → (r .next ≡ fieldAt (now (s .entry)) at (length (now (out .entry)))) × (r .next ≤ length (now (s .entry))) × (now (out .exit) ≡ tab (λ j. numberAt (now (s .entry)) (fieldAt (now (s .entry)) at j)) (length (now (out .entry))))) ⌝ }
 {

@@ -4,7 +4,7 @@ ghost use mathlib.Core.List.{_∷_, []};
 ghost use Prim.Native.Nat.{_+_, _*_, _<_, _≤_};
 ghost use lib.ListN.{length, replicate};
 ghost use Rattle.text.specs.Text.{decimalOf, decimal, fieldsText, lineText, lineOf, refusedText};
-ghost use Rattle.text.specs.Puts.{Puts};
+ghost use Rattle.text.specs.Puts.{fieldBytes, Puts};
 
 // One byte.
 fn put_byte(b: u8, out: &mut [u8], at: usize) -> usize
@@ -32,7 +32,7 @@ fn put_digits(most: u32, v: u32, out: &mut [u8], at: usize) -> usize
 
 // A comma and a number in decimal.
 fn put_field(v: u32, out: &mut [u8], at: usize) -> usize
-    requires { ⌜ at + 11 ≤ length (now out) ⌝ }
+    requires { ⌜ at + fieldBytes ≤ length (now out) ⌝ }
     ensures { λ r. ⌜ Puts at (44 ∷ decimal v) (now (out .entry)) r (now (out .exit)) ⌝ }
 {
     let next = put_byte(44, out, at);
@@ -41,7 +41,7 @@ fn put_field(v: u32, out: &mut [u8], at: usize) -> usize
 
 // The fields of a line: a comma and the number in decimal, for each.
 fn put_fields(vs: &[u32], out: &mut [u8], at: usize) -> usize
-    requires { ⌜ at + 11 * length (now vs) ≤ length (now out) ⌝ }
+    requires { ⌜ at + fieldBytes * length (now vs) ≤ length (now out) ⌝ }
     ensures { λ r. ⌜ Puts at (fieldsText (now (vs .entry))) (now (out .entry)) r (now (out .exit)) ⌝ }
 {
     let mut next = at;
@@ -69,7 +69,7 @@ pub fn put_word(word: &[u8], out: &mut [u8], at: usize) -> usize
 
 // A line that begins with a word: the word, its fields, and byte 10.
 pub fn put_line(word: &[u8], vs: &[u32], out: &mut [u8], at: usize) -> usize
-    requires { ⌜ at + (length (now word) + 11 * length (now vs) + 1) ≤ length (now out) ⌝ }
+    requires { ⌜ at + (length (now word) + fieldBytes * length (now vs) + 1) ≤ length (now out) ⌝ }
     ensures { λ r. ⌜ Puts at (lineText (now (word .entry)) (now (vs .entry))) (now (out .entry)) r (now (out .exit)) ⌝ }
 {
     let second = put_word(word, out, at);
@@ -79,7 +79,7 @@ pub fn put_line(word: &[u8], vs: &[u32], out: &mut [u8], at: usize) -> usize
 
 // A line of numbers: the first one, the fields of the others, and byte 10.
 pub fn put_numbers(vs: &[u32], out: &mut [u8], at: usize) -> usize
-    requires { ⌜ (0 < length (now vs)) × (at + 11 * length (now vs) ≤ length (now out)) ⌝ }
+    requires { ⌜ (0 < length (now vs)) × (at + fieldBytes * length (now vs) ≤ length (now out)) ⌝ }
     ensures { λ r. ⌜ Puts at (lineOf (now (vs .entry))) (now (out .entry)) r (now (out .exit)) ⌝ }
 {
     let second = put_digits(10, vs[0], out, at);

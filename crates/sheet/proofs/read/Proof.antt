@@ -8,6 +8,7 @@ use lib.Seq.{length-take-le, take-at}
 use borrow.Author.Needs.{needs}
 use Rattle.field.specs.Reasons.{badLengths}
 use Rattle.sheet.specs.Sheet.{readReasons, sheetReasons}
+use Rattle.sheet.specs.Table.{tableLength}
 use Rattle.sheet.specs.Deciding.{Decides}
 use Rattle.sheet.proofs.Reading.{ready, buffers, read-accepted, read-refused}
 use Rattle.sheet.proofs.read.Statement.{statement}
@@ -17,14 +18,14 @@ use Rattle.sheet.proofs.read.Tie as tie
 abbrev start : tie.After-decide → tie.Start
 start c = c .before .before .before .before .before .before .before .before .before .before .before .before
 
-room : (c : tie.After-table-room) → length (take 6160 (c .table-room .result)) ≡ 6160
-room c = length-take-le 6160 (c .table-room .result) (omega (arith, c .table-room .ensures))
+room : (c : tie.After-table-room) → length (take tableLength (c .table-room .result)) ≡ tableLength
+room c = length-take-le tableLength (c .table-room .result) (omega (arith, c .table-room .ensures))
 
-filled : (c : tie.After-decide) → length (c .decide .last .1 .0) ≡ 6160
+filled : (c : tie.After-decide) → length (c .decide .last .1 .0) ≡ tableLength
 filled c = c .decide .kept .1 .0 ∙ room (c .before .before .before .before .before)
 
-front : (c : tie.After-decide) → take 6160 (c .decide .last .1 .0 ++ drop 6160 (c .before .before .before .before .before .table-room .result)) ≡ c .decide .last .1 .0
-front c = take-at (c .decide .last .1 .0) (drop 6160 (c .before .before .before .before .before .table-room .result)) 6160 (filled c)
+front : (c : tie.After-decide) → take tableLength (c .decide .last .1 .0 ++ drop tableLength (c .before .before .before .before .before .table-room .result)) ≡ c .decide .last .1 .0
+front c = take-at (c .decide .last .1 .0) (drop tableLength (c .before .before .before .before .before .table-room .result)) tableLength (filled c)
 
 -- the lengths due are those of the definition
 decided : (c : tie.After-decide) → Decides (start c .args .sheet .now) (sheetReasons (start c .args .sheet .now) (length (start c .args .selectors .now)) (length (start c .args .labels .now)) (length (start c .args .witness .now)) (length (start c .args .publics .now)) (length (start c .args .challenges .now))) (c .decide .result) (c .decide .last .1 .0)

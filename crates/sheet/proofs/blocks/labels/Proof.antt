@@ -1,6 +1,7 @@
 -- `sheet::blocks::labels` meets its contract: the block has as many numbers as are lent. Assumes nothing.
 use mathlib.Core.Path.{ap, _∙_}
 use borrow.Author.Needs.{needs}
+use Rattle.sheet.specs.Sheet.{labelField}
 use Rattle.sheet.specs.Table.{byColumns}
 use Rattle.sheet.proofs.blocks.labels.Statement.{statement}
 use Rattle.sheet.proofs.blocks.labels.Tie as tie
@@ -12,7 +13,7 @@ by-columns-requires : tie.Need-by-columns-requires
 by-columns-requires c κs = search needs
 
 returns : tie.Need-returns
-returns c = c .by-columns .ensures ∙ ap (byColumns (c .before .before .args .n) 1 5) (c .before .labels-length .ensures)
+returns c = c .by-columns .ensures ∙ ap (byColumns (c .before .before .args .n) 1 labelField) (c .before .labels-length .ensures)
 
 pub labels-spec : {M : Type 1} → statement M
 labels-spec = tie.close (tie.spec labels-length-requires by-columns-requires returns)

@@ -32,7 +32,7 @@ slice-aggregate-line : tie.Need-slice-aggregate-line
 slice-aggregate-line c = sym (long (c .before))
 
 line-requires : tie.Need-line-requires
-line-requires c κs = (omega arith, c .before .before .if1 .left, omega (arith, long (c .before)), omega (arith, long (c .before)))
+line-requires c κs = (omega arith, c .before .before .if1 .left, omega (arith, long (c .before)))
 
 -- whether the line is in form
 form : (c : tie.After-line) → c .line .result .ok ≡ isLineAt (c .before .before .before .before .before .args .s .now) 0 3

@@ -10,8 +10,9 @@ use Rattle.field.specs.ReasonLaws.{refused-first, refused-later}
 use Rattle.circuit.specs.Circuit.{lentConstraints}
 use Rattle.circuit.specs.Buffers.{selectorsLength, labelsLength}
 use Rattle.circuit.specs.Reasons.{badLabel, badPublicRow}
+use Rattle.circuit.specs.Selectors.{unboundIn}
 use Rattle.sheet.specs.declared.blocks.Block.{Block}
-use Rattle.sheet.specs.Table.{inTable, selectorsIn, labelsIn}
+use Rattle.sheet.specs.Table.{lineWords, inTable, selectorsIn, labelsIn}
 use borrow.Author.Needs.{needs}
 use Rattle.sheet.proofs.BlockLaws.{labels-fit}
 use Rattle.sheet.specs.TableLaws.{unbound-table}
@@ -61,19 +62,23 @@ returns c =
     let s = c .before .before .before .before .before .before in
     refused-first (first s) (second s) (omega arith, tt) _ (decided (c .before)) (c .if1 .taken)
 
+table-place-requires : tie.Need-table-place-requires
+table-place-requires c κs = search needs
+
 unbound-row-requires : tie.Need-unbound-row-requires
-unbound-row-requires c κs =
-    let full = c .before .before .before .before .before .before .pre in
-    record { short = omega (arith, full .long); near = omega arith; room = λ i h. omega (arith, full .few, full .publics, full .long) }
+unbound-row-requires c κs = search needs
 
 decide-at-requires-2 : tie.Need-decide-at-requires-2
 decide-at-requires-2 c κs = search needs
 
 returns-2 : tie.Need-returns-2
 returns-2 c =
-    let s = c .before .before .before .before .before .before .before .before in
-    refused-later (first s) (second s) (omega arith, tt) _ _ (decided (c .before .before .before)) (c .before .before .if1 .left)
-    (c .decide-at2 .ensures ∙ ap (λ (at : ℕ). answerOf (reasonAt 14 at (s .args .l) ∷ [])) (c .before .unbound-row .ensures ∙ unbound-table (s .args .n) (s .args .table .now) (s .args .l) (labelsOf s) (s .pre .publics)))
+    let s = c .before .before .before .before .before .before .before .before .before in
+    let t = s .args .table .now in
+    let l = s .args .l in
+    let row = c .before .unbound-row .ensures ∙ ap (λ (start : ℕ). unboundIn t start lineWords 1 l) (c .before .before .table-place .ensures) ∙ unbound-table (s .args .n) t l (labelsOf s) (s .pre .publics) in
+    refused-later (first s) (second s) (omega arith, tt) _ _ (decided (c .before .before .before .before)) (c .before .before .before .if1 .left)
+    (c .decide-at2 .ensures ∙ ap (λ (at : ℕ). answerOf (reasonAt 14 at l ∷ [])) row)
 
 pub decide-circuit-spec : {M : Type 1} → statement M
 decide-circuit-spec =
@@ -86,6 +91,7 @@ decide-circuit-spec =
     above-requires
     decide-at-requires
     returns
+    table-place-requires
     unbound-row-requires
     decide-at-requires-2
     returns-2)

@@ -6,6 +6,7 @@ use native.Mathlib.Omega.{arith}
 use lib.ListN.{length}
 use Rattle.field.specs.Reasons.{Reason, answerOf, reasonAt, badElement}
 use Rattle.field.specs.ReasonLaws.{refused-first, refused-later}
+use Rattle.sheet.specs.Sheet.{challengeCount}
 use Rattle.sheet.specs.Table.{tableElements}
 use Rattle.sheet.specs.Deciding.{tableCircuit}
 use borrow.Author.Needs.{needs}
@@ -26,7 +27,7 @@ decided c =
     let s = c .before .before .selectors-length in
     let w = c .before .witness-length in
     let elements = tableElements (a .n) (a .l) (a .table .now) in
-    let long : s .result + w .result + a .l + 4 ≡ length elements = omega (arith, s .ensures, w .ensures, elements-long (a .n) (a .l) (a .table .now)) in
+    let long : s .result + w .result + a .l + challengeCount ≡ length elements = omega (arith, s .ensures, w .ensures, elements-long (a .n) (a .l) (a .table .now)) in
     c .decide-at .ensures ∙ ap₂ (λ (at count : ℕ). answerOf (reasonAt 7 at count ∷ [])) (c .before .before .before .elements .ensures) long
 
 elements-requires : tie.Need-elements-requires
