@@ -32,7 +32,7 @@ use Rattle.field.specs.Reasons.{Reason, answerOf, badLengths}
 use Rattle.field.specs.ReasonLaws.{none-applies, both-none, refused-first, refused-later}
 use Rattle.circuit.specs.Buffers.{selectorsLength, witnessLength}
 use Rattle.circuit.specs.RightlyLent.{RightCircuit}
-use Rattle.sheet.specs.Sheet.{sheetRows, linesDue, sheetP, sheetN, sheetL, onSelectors, onWitness, onPublics, onChallenges, badFirst, newReasons}
+use Rattle.sheet.specs.Sheet.{sheetRows, challengeCount, linesDue, sheetP, sheetN, sheetL, onSelectors, onWitness, onPublics, onChallenges, badFirst, newReasons}
 use Rattle.sheet.specs.Table.{Held}
 use Rattle.sheet.specs.Deciding.{Taken, taken-of, new-numbers, new-of, new-retired, new-own}
 use Rattle.joining.specs.declared.reasons.Pair.{Pair}
@@ -42,7 +42,7 @@ pub record Filled (N : Numbers) : Type 0 where
   pub circuit-right : RightCircuit (N .p) (N .n) (N .l) (N .selectors) (N .labels)
   pub witness-right : Elements (N .p) (witnessLength (N .n)) (N .witness)
   pub publics-right : Elements (N .p) (N .l) (N .publics)
-  pub challenges-right : Elements (N .p) 4 (N .challenges)
+  pub challenges-right : Elements (N .p) challengeCount (N .challenges)
 
 pub record Joinable (A B : Numbers) : Type 0 where
   pub one : Filled A
@@ -65,7 +65,7 @@ filled-of s T =
       circuit-right = T .circuit-right;
       witness-right = record { long = length-tab (onWitness s n l) (witnessLength n); below = all-left P (tab (onWitness s n l) (witnessLength n)) _ behind };
       publics-right = record { long = length-tab (onPublics s n l) l; below = all-left P (tab (onPublics s n l) l) _ last };
-      challenges-right = record { long = length-tab (onChallenges s n l) 4; below = all-right P (tab (onPublics s n l) l) _ last };
+      challenges-right = record { long = length-tab (onChallenges s n l) challengeCount; below = all-right P (tab (onPublics s n l) l) _ last };
     }
 
 -- THE DECISION
@@ -109,7 +109,7 @@ module _ (one two : List ℕ) (room : ℕ) where
     first-taken : Taken one × (answerOf lengths .number ≡ 0)
     first-taken = taken-of one lengths (omega arith, tt) (new-of one lengths (sym (ap (λ (b : Answer). b .number) e) ∙ zero) .1)
 
-    pub rows-few : sheetN one ≤ 256
+    pub rows-few : sheetN one ≤ sheetRows
     rows-few = first-taken .0 .shape .few
 
     -- the second sheet is read with the lengths of the call, which are those due

@@ -34,7 +34,7 @@ use Rattle.algebra.specs.Lists.{tab}
 use Rattle.field.specs.Reasons.{Reason, answerOf, isAccepted, badRows, badLengths}
 use Rattle.circuit.specs.Circuit.{Constraints, position, lentConstraints, lentWitness, laidWitness, lentPublic, Satisfies}
 use Rattle.circuit.specs.Buffers.{selectorsLength, labelsLength, witnessLength}
-use Rattle.sheet.specs.Sheet.{sheetRows, sheetP, sheetN, sheetL, onSelectors, onLabels, onWitness, onPublics, onChallenges, newReasons}
+use Rattle.sheet.specs.Sheet.{sheetRows, challengeCount, sheetP, sheetN, sheetL, onSelectors, onLabels, onWitness, onPublics, onChallenges, newReasons}
 use Rattle.sheet.specs.Written.{sheetText}
 use Rattle.joining.specs.declared.Joined.{Joined}
 
@@ -60,7 +60,7 @@ onSheet s =
       labels = tab (onLabels s (sheetN s) (sheetL s)) (labelsLength (sheetN s));
       witness = tab (onWitness s (sheetN s) (sheetL s)) (witnessLength (sheetN s));
       publics = tab (onPublics s (sheetN s) (sheetL s)) (sheetL s);
-      challenges = tab (onChallenges s (sheetN s) (sheetL s)) 4;
+      challenges = tab (onChallenges s (sheetN s) (sheetL s)) challengeCount;
     }
 
 abbrev pub textOf : Numbers → List ℕ

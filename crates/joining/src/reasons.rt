@@ -4,7 +4,8 @@ ghost use mathlib.Core.List.{_∷_, []};
 ghost use Prim.Native.Nat.{_≤_};
 ghost use lib.ListN.{length};
 ghost use Rattle.field.specs.Reasons.{answerOf, badLengths};
-ghost use Rattle.sheet.specs.Sheet.{newReasons};
+ghost use Rattle.sheet.specs.Sheet.{sheetRows, newReasons};
+ghost use Rattle.sheet.specs.Table.{tableLength};
 ghost use Rattle.sheet.specs.Deciding.{Decides as Reading·Decides};
 ghost use Rattle.joining.specs.Joining.{pairReasons};
 ghost use Rattle.joining.specs.Deciding.{Decides};
@@ -35,7 +36,7 @@ fn turned_down(answer: Answer) -> Pair
 
 // The reasons of a pair of sheets, one of n rows over p and one of k rows over q: 15 where they differ, 3 where the doubled n is too great.
 fn decide_pair(p: u32, n: u32, q: u32, k: u32) -> Answer
-    requires { ⌜ n ≤ 256 ⌝ }
+    requires { ⌜ n ≤ sheetRows ⌝ }
     ensures { λ r. ⌜ r ≡ answerOf (pairReasons p n q k) ⌝ }
 {
     if p != q {
@@ -56,7 +57,7 @@ fn decide_pair(p: u32, n: u32, q: u32, k: u32) -> Answer
 // The reasons of a sheet as a new one, `long` being the lengths of the call's buffers, and `due` those due: that of a retired prime comes straight after 2. The table
 // is filled where none applies.
 fn decide_new(s: &[u8], table: &mut [u32], long: &[usize], due: &[usize]) -> SheetAnswer
-    requires { ⌜ (length (now table) ≡ 6160) × (length (now long) ≡ length (now due)) × (length (now due) ≤ 16) ⌝ }
+    requires { ⌜ (length (now table) ≡ tableLength) × (length (now long) ≡ length (now due)) × (length (now due) ≤ 16) ⌝ }
     ensures { λ r. ⌜ Reading·Decides (now (s .entry)) (newReasons (now (s .entry)) (badLengths (now (long .entry)) (now (due .entry)) ∷ [])) r (now (table .exit)) ⌝ }
 {
     let prime = sheet::decide_prime(s);
@@ -75,7 +76,7 @@ fn decide_new(s: &[u8], table: &mut [u32], long: &[usize], due: &[usize]) -> She
 // The reasons of the first sheet as a new one, with that of the written buffer among them, those of the second, and those of the pair. `room` is
 // the length of the written buffer. The tables are filled where none applies.
 pub fn decide(one: &[u8], two: &[u8], room: usize, first: &mut [u32], second: &mut [u32]) -> Pair
-    requires { ⌜ (length (now first) ≡ 6160) × (length (now second) ≡ 6160) ⌝ }
+    requires { ⌜ (length (now first) ≡ tableLength) × (length (now second) ≡ tableLength) ⌝ }
     ensures { λ r. ⌜ Decides (now (one .entry)) (now (two .entry)) room r (now (first .exit)) (now (second .exit)) ⌝ }
 {
     let long = [one.len(), two.len(), room];

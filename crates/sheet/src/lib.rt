@@ -17,6 +17,7 @@ mod table;
 
 pub use first::decide_prime;
 pub use reasons::decide;
+pub use table::line_room;
 pub use table::table_place;
 pub use table::table_room;
 

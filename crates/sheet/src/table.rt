@@ -20,6 +20,13 @@ pub fn table_room() -> [u32; TABLE_LENGTH]
     [0; TABLE_LENGTH]
 }
 
+// Room for a line.
+pub fn line_room() -> [u32; LINE_WORDS]
+    ensures { λ r. ⌜ lineWords ≡ length r ⌝ }
+{
+    [0; LINE_WORDS]
+}
+
 // Where field j of line i stands. A line of j numbers ends there.
 pub fn table_place(i: usize, j: usize) -> usize
     requires { ⌜ (i < tableLines) × (j ≤ lineWords) ⌝ }

@@ -8,6 +8,7 @@ use borrow.Author.Needs.{needs}
 use Rattle.field.specs.declared.Answer.{Answer}
 use Rattle.field.specs.Reasons.{answerOf}
 use Rattle.text.specs.Puts.{Puts, puts-fits, puts-cleared}
+use Rattle.sheet.specs.Table.{tableLength}
 use Rattle.joining.specs.Joining.{onSheet, joinedText, joinReasons}
 use Rattle.joining.specs.Deciding.{Joinable, joinable-of, room-is, refused-join, made-join}
 use Rattle.joining.specs.Tabled.{found-tables, found-text}
@@ -21,10 +22,10 @@ start c = c .before .before .before .before .before .before .before .before
 abbrev decided : tie.After-put-sheet → tie.After-decide
 decided c = c .before .before .before .before .before .before .before .before
 
-one-long : (c : tie.After-decide) → length (c .decide .last .1 .1 .1 .0) ≡ 6160
+one-long : (c : tie.After-decide) → length (c .decide .last .1 .1 .1 .0) ≡ tableLength
 one-long c = omega (arith, c .decide .kept .1 .1 .1 .0, c .before .before .before .before .table-room .ensures)
 
-two-long : (c : tie.After-decide) → length (c .decide .last .1 .1 .1 .1 .0) ≡ 6160
+two-long : (c : tie.After-decide) → length (c .decide .last .1 .1 .1 .1 .0) ≡ tableLength
 two-long c = omega (arith, c .decide .kept .1 .1 .1 .1 .0, c .before .before .before .table-room2 .ensures)
 
 -- where no reason applies, the sheets can be joined

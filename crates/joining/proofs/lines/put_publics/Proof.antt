@@ -1,16 +1,15 @@
 -- `joining::lines::put_publics` meets its contract: after i turns the first i lines are put. Assumes nothing.
 use mathlib.Core.Path.{_≡_, subst}
-use mathlib.Core.List.{List}
 use Prim.Native.Nat.{ℕ, _-_, _≤_}
 use native.Mathlib.Omega.{arith}
 use lib.ListN.{length}
 use borrow.Author.Needs.{needs}
 use Rattle.transform.specs.Parts.{laid}
 use Rattle.text.specs.Text.{lineOf}
-use Rattle.text.specs.Puts.{Puts}
+use Rattle.text.specs.Puts.{fieldBytes, Puts}
 use Rattle.sheet.specs.LaidLines.{laid-long}
 use Rattle.joining.specs.Lines.{publicIn}
-use Rattle.joining.proofs.LineLaws.{lines-none, lines-turn, public-is, public-long}
+use Rattle.joining.proofs.LineLaws.{lines-none, lines-turn, before-labels, public-long}
 use Rattle.joining.proofs.lines.put_publics.Statement.{statement}
 use Rattle.joining.proofs.lines.put_publics.Tie as tie
 
@@ -38,10 +37,9 @@ put-words-requires c κs =
     let s = c .before .before .before .before .before in
     let a = s .args in
     let loop = c .before .before .loop in (
+      before-labels (a .table .now) (s .pre .2) (omega (arith, s .pre .0, s .pre .1)) (omega arith),
       omega arith,
-      omega (arith, s .pre .0, s .pre .1, s .pre .2),
-      s .pre .2,
-      omega (arith, s .pre .3, loop .inv .1 .place, loop .inv .2, laid-long (λ i. lineOf (publicIn (a .n) (a .table .now) i)) 11 (loop .i) (λ i h. public-long (a .n) (a .table .now) i)),
+      omega (arith, s .pre .3, loop .inv .1 .place, loop .inv .2, laid-long (λ i. lineOf (publicIn (a .n) (a .table .now) i)) fieldBytes (loop .i) (λ i h. public-long (a .n) (a .table .now) i)),
     )
 
 add-i : tie.Need-add-i Inv-loop μ-loop
@@ -55,8 +53,7 @@ loop-again c =
     let a = c .before .before .before .before .before .before .before .before .args in
     let loop = c .before .before .before .before .before .loop in
     let put = c .before .before .put-words in
-    let line = subst (λ (line : List ℕ). Puts (loop .next) (lineOf line) (loop .out) (put .result) (put .last .1 .1 .1 .0)) (public-is (a .n) (a .table .now) (loop .i)) (put .ensures) in
-    (omega arith, lines-turn (λ i. lineOf (publicIn (a .n) (a .table .now) i)) (loop .i) (loop .inv .1) line, omega (arith, put .kept, loop .inv .2))
+    (omega arith, lines-turn (λ i. lineOf (publicIn (a .n) (a .table .now) i)) (loop .i) (loop .inv .1) (put .ensures), omega (arith, put .kept, loop .inv .2))
 
 same-length : tie.Need-same-length Inv-loop μ-loop
 same-length c = search needs

@@ -7,6 +7,7 @@ use borrow.Author.Needs.{needs}
 use borrow.Author.Tests.{not-true, not-false, eq-eqb, ne-eqb, lt-ltb, le-ltb}
 use Rattle.field.specs.Fields.{isRows}
 use Rattle.field.specs.Reasons.{answerOf}
+use Rattle.sheet.specs.Sheet.{sheetRows}
 use Rattle.joining.specs.Joining.{pairReasons}
 use Rattle.joining.proofs.reasons.decide_pair.Statement.{statement}
 use Rattle.joining.proofs.reasons.decide_pair.Tie as tie
@@ -21,11 +22,11 @@ module _ (p n q k : ℕ) (e : p ≡ q) (f : n ≡ k) where
   no-rows : isRows p (2 * n) ≡ false → record { number = 3; detail = 0 } ≡ answerOf (pairReasons p n q k)
   no-rows h = rw (eq-eqb p q e, eq-eqb n k f, h)
 
-  many-rows : isRows p (2 * n) ≡ true → 256 < 2 * n → record { number = 3; detail = 0 } ≡ answerOf (pairReasons p n q k)
-  many-rows h l = rw (eq-eqb p q e, eq-eqb n k f, h, lt-ltb 256 (2 * n) l)
+  many-rows : isRows p (2 * n) ≡ true → sheetRows < 2 * n → record { number = 3; detail = 0 } ≡ answerOf (pairReasons p n q k)
+  many-rows h l = rw (eq-eqb p q e, eq-eqb n k f, h, lt-ltb sheetRows (2 * n) l)
 
-  right-rows : isRows p (2 * n) ≡ true → 2 * n ≤ 256 → record { number = 0; detail = 0 } ≡ answerOf (pairReasons p n q k)
-  right-rows h l = rw (eq-eqb p q e, eq-eqb n k f, h, le-ltb 256 (2 * n) l)
+  right-rows : isRows p (2 * n) ≡ true → 2 * n ≤ sheetRows → record { number = 0; detail = 0 } ≡ answerOf (pairReasons p n q k)
+  right-rows h l = rw (eq-eqb p q e, eq-eqb n k f, h, le-ltb sheetRows (2 * n) l)
 
 refused-requires : tie.Need-refused-requires
 refused-requires c κs = search needs

@@ -1,17 +1,16 @@
--- `joining::lines::put_gate` meets its contract: the line of the row that stands there. Assumes nothing.
+-- `joining::lines::put_row` meets its contract: the line of the row that stands there. Assumes nothing.
 use mathlib.Core.Path.{_≡_, sym, subst, _∙_}
 use mathlib.Core.Logic.{inl, inr}
 use mathlib.Core.List.{List}
 use Prim.Native.Nat.{ℕ, _<_}
 use native.Mathlib.Omega.{arith}
 use borrow.Author.Needs.{needs}
-use native.Mathlib.Numerals.{add-one}
 use Rattle.text.specs.Text.{lineOf}
 use Rattle.text.specs.Puts.{Puts}
 use Rattle.joining.specs.Joining.{sourceRow}
-use Rattle.joining.proofs.LineLaws.{source-first, source-second, first-below, second-below, gate-first, gate-second}
-use Rattle.joining.proofs.lines.put_gate.Statement.{statement}
-use Rattle.joining.proofs.lines.put_gate.Tie as tie
+use Rattle.joining.proofs.LineLaws.{source-first, source-second, first-below, second-below, row-first, row-second}
+use Rattle.joining.proofs.lines.put_row.Statement.{statement}
+use Rattle.joining.proofs.lines.put_row.Tie as tie
 
 -- where the call begins; the row comes from the first sheet, or from the second, and is below n
 abbrev start : tie.After-source-of → tie.Start
@@ -40,37 +39,33 @@ enum-known-row : tie.Need-enum-known-row
 enum-known-row c = search needs
 
 add-put-words : tie.Need-add-put-words
-add-put-words c = omega (arith, first-low (c .before), start (c .before .before .before) .pre .0 .few)
+add-put-words c =
+    let s = start (c .before .before .before) in
+    omega (arith, s .pre .0 .one-lines _ (first-low (c .before)) .line)
 
 put-words-requires : tie.Need-put-words-requires
 put-words-requires c κs =
     let s = start (c .before .before .before .before) in
-    (omega arith, omega (arith, first-low (c .before .before), s .pre .0 .few, s .pre .0 .one-long), s .pre .0 .one-long, s .pre .2)
+    (s .pre .0 .one-lines _ (first-low (c .before .before)), s .pre .0 .some, s .pre .2)
 
 enum-known-row-2 : tie.Need-enum-known-row-2
 enum-known-row-2 c = search needs
 
-add-put-raised : tie.Need-add-put-raised
-add-put-raised c = omega (arith, second-low (c .before), start (c .before .before .before) .pre .0 .few)
+add-put-words-2 : tie.Need-add-put-words-2
+add-put-words-2 c =
+    let s = start (c .before .before .before) in
+    omega (arith, s .pre .0 .two-lines _ (second-low (c .before)) .line)
 
-cast-put-raised : tie.Need-cast-put-raised
-cast-put-raised c = search needs
+cast-put-words : tie.Need-cast-put-words
+cast-put-words c = search needs
 
-mul-put-raised : tie.Need-mul-put-raised
-mul-put-raised c = search needs
+mul-put-words : tie.Need-mul-put-words
+mul-put-words c = search needs
 
-put-raised-requires : tie.Need-put-raised-requires
-put-raised-requires c κs =
+put-words-requires-2 : tie.Need-put-words-requires-2
+put-words-requires-2 c κs =
     let s = start (c .before .before .before .before) in
-    let low = second-low (c .before .before) in (
-      record {
-        long = s .pre .0 .two-long;
-        within = omega (arith, low, s .pre .0 .few, s .pre .0 .two-long);
-        few = omega (arith, s .pre .0 .few);
-        labels-few = λ j h. rw (add-one (c .before .before .row2 .given .0 .0)) (s .pre .0 .labels-few (c .before .before .row2 .given .0 .0) j low h);
-      },
-      s .pre .2,
-    )
+    (s .pre .0 .two-lines _ (second-low (c .before .before)), s .pre .0 .some, s .pre .2)
 
 same-length : tie.Need-same-length
 same-length c = search needs
@@ -80,8 +75,8 @@ returns c =
     let row = c .before .before .before .before .before in
     let s = start (row .before .before) in
     let put = c .before .before .put-words in
-    subst (λ (line : List ℕ). Puts (s .args .at) (lineOf line) (s .args .out .now) (put .result) (put .last .1 .1 .1 .0))
-    (gate-first (s .args .n) (s .args .l) (s .args .m) (s .args .first .now) (s .args .second .now) (s .args .i) _ (first-row row))
+    subst (λ (line : List ℕ). Puts (s .args .at) (lineOf line) (s .args .out .now) (put .result) (put .last .1 .1 .1 .1 .0))
+    (row-first (s .args .n) (s .args .l) (s .args .m) (s .args .start) (s .args .k) (s .args .first .now) (s .args .second .now) (s .args .i) _ (first-row row))
     (put .ensures)
 
 same-length-2 : tie.Need-same-length-2
@@ -91,13 +86,13 @@ returns-2 : tie.Need-returns-2
 returns-2 c =
     let row = c .before .before .before .before .before in
     let s = start (row .before .before) in
-    let put = c .before .before .put-raised in
-    subst (λ (line : List ℕ). Puts (s .args .at) (lineOf line) (s .args .out .now) (put .result) (put .last .1 .1 .1 .0))
-    (gate-second (s .args .n) (s .args .l) (s .args .m) (s .args .first .now) (s .args .second .now) (s .args .i) _ (second-row row))
+    let put = c .before .before .put-words2 in
+    subst (λ (line : List ℕ). Puts (s .args .at) (lineOf line) (s .args .out .now) (put .result) (put .last .1 .1 .1 .1 .0))
+    (row-second (s .args .n) (s .args .l) (s .args .m) (s .args .start) (s .args .k) (s .args .first .now) (s .args .second .now) (s .args .i) _ (second-row row))
     (put .ensures)
 
-pub put-gate-spec : {M : Type 1} → statement M
-put-gate-spec =
+pub put-row-spec : {M : Type 1} → statement M
+put-row-spec =
     tie.close
     (tie.spec
     source-of-requires
@@ -105,10 +100,10 @@ put-gate-spec =
     add-put-words
     put-words-requires
     enum-known-row-2
-    add-put-raised
-    cast-put-raised
-    mul-put-raised
-    put-raised-requires
+    add-put-words-2
+    cast-put-words
+    mul-put-words
+    put-words-requires-2
     same-length
     returns
     same-length-2
