@@ -15,7 +15,7 @@ use Rattle.algebra.specs.Lists.{tab}
 use Rattle.field.specs.Reasons.{Reason, answerOf, isAccepted, badLengths}
 use Rattle.circuit.specs.Buffers.{selectorsLength, labelsLength, witnessLength}
 use Rattle.text.specs.Text.{refusedText}
-use Rattle.sheet.specs.Sheet.{sheetP, sheetN, sheetL, onSelectors, onLabels, onWitness, onPublics, onChallenges, newAnswer}
+use Rattle.sheet.specs.Sheet.{challengeCount, sheetP, sheetN, sheetL, onSelectors, onLabels, onWitness, onPublics, onChallenges, newAnswer}
 use Rattle.archive.specs.declared.Deposited.{Deposited}
 use Rattle.archive.specs.Printed.{textLength, workText}
 
@@ -25,7 +25,7 @@ depositText s =
     let n : ℕ = sheetN s in
     let l : ℕ = sheetL s in
     cond (isAccepted (newAnswer s))
-    (workText (sheetP s) n l (tab (onSelectors s n l) (selectorsLength n)) (tab (onLabels s n l) (labelsLength n)) (tab (onWitness s n l) (witnessLength n)) (tab (onPublics s n l) l) (tab (onChallenges s n l) 4))
+    (workText (sheetP s) n l (tab (onSelectors s n l) (selectorsLength n)) (tab (onLabels s n l) (labelsLength n)) (tab (onWitness s n l) (witnessLength n)) (tab (onPublics s n l) l) (tab (onChallenges s n l) challengeCount))
     (refusedText (newAnswer s .number) (newAnswer s .detail))
 
 abbrev pub depositDue : ℕ → List ℕ

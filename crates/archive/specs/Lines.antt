@@ -13,7 +13,7 @@ use native.Mathlib.Omega.{arith}
 use lib.ListN.{length, length-append, length-drop}
 use Rattle.circuit.specs.Buffers.{transcriptLength, tStart, wirePart, zPart, tPart}
 use Rattle.circuit.specs.Parts.{short-wire, short-z}
-use Rattle.text.specs.Puts.{length-line}
+use Rattle.text.specs.Puts.{fieldBytes, length-line}
 use Rattle.archive.specs.Printed.{letterLine, transcriptText, textLength}
 
 pub record Laid (m : ℕ) (transcript out : List ℕ) : Type 0 where
@@ -23,7 +23,7 @@ pub record Laid (m : ℕ) (transcript out : List ℕ) : Type 0 where
   pub room : length out ≡ textLength
 
 pub length-wires : (a b c : List ℕ)
-    → length (letterLine 97 a ++ (letterLine 98 b ++ letterLine 99 c)) ≤ 11 * length a + 11 * length b + 11 * length c + 6
+    → length (letterLine 97 a ++ (letterLine 98 b ++ letterLine 99 c)) ≤ fieldBytes * length a + fieldBytes * length b + fieldBytes * length c + 6
 length-wires a b c =
     omega (
       arith,
@@ -36,7 +36,7 @@ length-wires a b c =
 
 pub length-five : (a b c z t : List ℕ)
     → length (letterLine 97 a ++ (letterLine 98 b ++ letterLine 99 c) ++ (letterLine 122 z ++ letterLine 116 t))
-    ≤ 11 * length a + 11 * length b + 11 * length c + 11 * length z + 11 * length t + 10
+    ≤ fieldBytes * length a + fieldBytes * length b + fieldBytes * length c + fieldBytes * length z + fieldBytes * length t + 10
 length-five a b c z t =
     omega (
       arith,

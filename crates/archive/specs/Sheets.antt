@@ -35,7 +35,7 @@ use Rattle.field.specs.Reasons.{answerOf, isAccepted, badLengths}
 use Rattle.field.specs.ReasonLaws.{none-applies}
 use Rattle.circuit.specs.Buffers.{selectorsLength, labelsLength, witnessLength}
 use Rattle.text.specs.Text.{refusedText}
-use Rattle.sheet.specs.Sheet.{sheetRows, sheetP, sheetN, sheetL, onSelectors, onLabels, onWitness, onPublics, onChallenges, padded, badFirst, sheetDue, newAnswer}
+use Rattle.sheet.specs.Sheet.{sheetRows, challengeCount, sheetP, sheetN, sheetL, onSelectors, onLabels, onWitness, onPublics, onChallenges, padded, badFirst, sheetDue, newAnswer}
 use Rattle.sheet.specs.Deciding.{primeLine, taken-of, own-answer, new-refused, new-same, new-of, new-retired}
 use Rattle.sheet.specs.declared.SheetAnswer.{SheetAnswer}
 use Rattle.sheet.specs.Promises.{Reads}
@@ -47,7 +47,7 @@ pub record Right (s : List ℕ) : Type 0 where
   pub admissible : Admissible (sheetP s) (sheetN s)
   pub few-rows : sheetN s ≤ sheetRows
   pub few-publics : sheetL s ≤ sheetN s
-  pub challenges-right : Elements (sheetP s) 4 (tab (onChallenges s (sheetN s) (sheetL s)) 4)
+  pub challenges-right : Elements (sheetP s) challengeCount (tab (onChallenges s (sheetN s) (sheetL s)) challengeCount)
 
 pub right-of : (s : List ℕ) → newAnswer s .number ≡ 0 → Right s
 right-of s e =
@@ -60,7 +60,7 @@ right-of s e =
       few-rows = taken .shape .few;
       few-publics = taken .shape .publics-few;
       challenges-right = record {
-        long = length-tab (onChallenges s n l) 4;
+        long = length-tab (onChallenges s n l) challengeCount;
         below =
             all-right P (tab (onPublics s n l) l) _
             (all-right P (tab (onWitness s n l) (witnessLength n)) _ (all-right P (tab (onSelectors s n l) (selectorsLength n)) _ (taken .elements)));
@@ -88,7 +88,7 @@ pub record Arrays (selectors labels witness publics challenges : List ℕ) : Typ
   pub labels-long : labelsLength sheetRows ≡ length labels
   pub witness-long : witnessLength sheetRows ≡ length witness
   pub publics-long : sheetRows ≡ length publics
-  pub challenges-long : 4 ≡ length challenges
+  pub challenges-long : challengeCount ≡ length challenges
 
 module _ (s selectors labels witness publics challenges : List ℕ) (r : SheetAnswer) (selectors' labels' witness' publics' challenges' : List ℕ)
     (R : Reads s selectors labels witness publics challenges r selectors' labels' witness' publics' challenges')
@@ -116,7 +116,7 @@ module _ (s selectors labels witness publics challenges : List ℕ) (r : SheetAn
     l-read : r .l ≡ sheetL s
     l-read = R .l-is ∙ rw accepted
 
-    challenges-read : challenges' ≡ tab (onChallenges s (sheetN s) (sheetL s)) 4
+    challenges-read : challenges' ≡ tab (onChallenges s (sheetN s) (sheetL s)) challengeCount
     challenges-read = R .challenges-laid ∙ rw accepted (append-nil _)
 
     pub rows-few : r .n ≤ 256

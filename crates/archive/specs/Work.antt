@@ -3,7 +3,7 @@
 -- Lays            what the prover's part promises: its answer, and the transcript where it accepts
 -- Judgeable       what the point check has to be lent: elements, and as many as are due
 -- Checkable       the same with the circuit in place of the prepared circuit
--- Workable        two rows up to 256, four challenges that are elements, and a buffer of the text's length
+-- Workable        two rows up to 256, as many challenges as a sheet has, which are elements, and a buffer of the text's length
 -- judgedFrom      the point verdict on a transcript, for the prepared circuit of lent selectors and labels
 -- checkedText     the lines of a transcript, and of the verdict on it
 -- THEOREMS
@@ -48,6 +48,7 @@ use Rattle.pointcheck.specs.Promises.{judgedAs, judgedAt, PointChecks}
 use Rattle.witnesses.specs.Accepted.{Accepted, accepted-of}
 use Rattle.prover.specs.Promises.{provedFrom, Proves}
 use Rattle.text.specs.Text.{refusedText}
+use Rattle.sheet.specs.Sheet.{challengeCount}
 use Rattle.archive.specs.Printed.{judgedText, verdictText, transcriptText, textLength, workAnswer, workTranscript, workText}
 use Rattle.archive.specs.Lines.{Laid}
 
@@ -62,7 +63,7 @@ pub record Judgeable (p n l : ℕ) (publics prepared transcript challenges : Lis
   pub publics-right : Elements p l publics
   pub prepared-right : Elements p (preparedLength n) prepared
   pub transcript-right : Elements p (transcriptLength n) transcript
-  pub challenges-right : Elements p 4 challenges
+  pub challenges-right : Elements p challengeCount challenges
 
 pub record Checkable (p n l : ℕ) (selectors labels publics transcript challenges : List ℕ) : Type 0 where
   pub few : n ≤ 256
@@ -70,12 +71,12 @@ pub record Checkable (p n l : ℕ) (selectors labels publics transcript challeng
   pub circuit-right : RightCircuit p n l selectors labels
   pub publics-right : Elements p l publics
   pub transcript-right : Elements p (transcriptLength n) transcript
-  pub challenges-right : Elements p 4 challenges
+  pub challenges-right : Elements p challengeCount challenges
 
 pub record Workable (p n : ℕ) (challenges text : List ℕ) : Type 0 where
   pub some : 2 ≤ n
   pub few : n ≤ 256
-  pub challenges-right : Elements p 4 challenges
+  pub challenges-right : Elements p challengeCount challenges
   pub room : length text ≡ textLength
 
 abbrev pub judgedFrom : ℕ → ℕ → List ℕ → List ℕ → List ℕ → List ℕ → List ℕ → Judged

@@ -65,11 +65,11 @@ fn print_current(sheet: &[u8], text: &mut [u8]) -> usize
     requires { ⌜ (length (now text) ≡ textLength) × (isCurrent (sheetP (now sheet)) ≡ true) ⌝ }
     ensures { λ r. ⌜ Puts 0 (depositText (now (sheet .entry))) (now (text .entry)) r (now (text .exit)) ⌝ }
 {
-    let mut selectors = blanks::blank_1280();
-    let mut labels = blanks::blank_768();
-    let mut witness = blanks::blank_768();
-    let mut publics = blanks::blank_256();
-    let mut challenges = blanks::blank_4();
+    let mut selectors = blanks::blank_selectors();
+    let mut labels = blanks::blank_positions();
+    let mut witness = blanks::blank_positions();
+    let mut publics = blanks::blank_publics();
+    let mut challenges = blanks::blank_challenges();
     let found = sheet::read(
         sheet,
         &mut selectors,

@@ -2,7 +2,7 @@
 ghost use mathlib.Core.List.{_++_};
 ghost use Prim.Native.Nat.{_+_, _*_, _≤_};
 ghost use lib.ListN.{length};
-ghost use Rattle.text.specs.Puts.{Puts};
+ghost use Rattle.text.specs.Puts.{fieldBytes, Puts};
 ghost use Rattle.archive.specs.Printed.{letterLine, judgedText, transcriptText};
 ghost use Rattle.archive.specs.Lines.{Laid};
 use pointcheck::Judged;
@@ -23,7 +23,7 @@ pub fn put_judged(verdict: Judged, out: &mut [u8], at: usize) -> usize
 
 // The lines of the three wires, at the buffer's start.
 pub fn put_wires(a: &[u32], b: &[u32], c: &[u32], out: &mut [u8]) -> usize
-    requires { ⌜ 11 * length (now a) + 11 * length (now b) + 11 * length (now c) + 6 ≤ length (now out) ⌝ }
+    requires { ⌜ fieldBytes * length (now a) + fieldBytes * length (now b) + fieldBytes * length (now c) + 6 ≤ length (now out) ⌝ }
     ensures { λ r. ⌜ Puts 0 (letterLine 97 (now (a .entry)) ++ (letterLine 98 (now (b .entry)) ++ letterLine 99 (now (c .entry)))) (now (out .entry)) r (now (out .exit)) ⌝ }
 {
     let second = put_line(b"a", a, out, 0);
@@ -33,7 +33,7 @@ pub fn put_wires(a: &[u32], b: &[u32], c: &[u32], out: &mut [u8]) -> usize
 
 // The lines of z and t.
 pub fn put_rest(z: &[u32], t: &[u32], out: &mut [u8], at: usize) -> usize
-    requires { ⌜ at + (11 * length (now z) + 11 * length (now t) + 4) ≤ length (now out) ⌝ }
+    requires { ⌜ at + (fieldBytes * length (now z) + fieldBytes * length (now t) + 4) ≤ length (now out) ⌝ }
     ensures { λ r. ⌜ Puts at (letterLine 122 (now (z .entry)) ++ letterLine 116 (now (t .entry))) (now (out .entry)) r (now (out .exit)) ⌝ }
 {
     let next = put_line(b"z", z, out, at);

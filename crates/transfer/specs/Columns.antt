@@ -31,7 +31,7 @@ use Rattle.rowcheck.specs.Promises.{verdictOf, lentZ}
 use Rattle.losses.specs.declared.Counted.{Counted}
 use Rattle.losses.specs.Losses.{lostReasons}
 use Rattle.sheet.specs.declared.SheetAnswer.{SheetAnswer}
-use Rattle.sheet.specs.Sheet.{sheetRows, numberOf, sheetP, sheetN, sheetL, onSelectors, onLabels, onPublics, onChallenges, padded, firstReasons, lineReasons, sheetLengths}
+use Rattle.sheet.specs.Sheet.{sheetRows, challengeCount, numberOf, sheetP, sheetN, sheetL, onSelectors, onLabels, onPublics, onChallenges, padded, firstReasons, lineReasons, sheetLengths}
 
 abbrev pub columnWitness : ℕ → List ℕ → ℕ → ℕ
 columnWitness n witness k = getD witness k 0
@@ -81,7 +81,7 @@ columnsReasons s selectors labels witness publics challenges =
     firstReasons s
     ++ (lineReasons s n l
     ++ (sheetLengths s selectors labels witness publics challenges
-    ∷ numberReasons (sheetP s) n l (read ++ (columnsRead s n l ++ (tab (onPublics s n l) l ++ tab (onChallenges s n l) 4))) read (tab (onLabels s n l) (labelsLength n))))
+    ∷ numberReasons (sheetP s) n l (read ++ (columnsRead s n l ++ (tab (onPublics s n l) l ++ tab (onChallenges s n l) challengeCount))) read (tab (onLabels s n l) (labelsLength n))))
 
 pub record ReadsByColumns (s selectors labels witness publics challenges : List ℕ) (r : SheetAnswer) (selectors' labels' witness' publics' challenges' : List ℕ)
     : Type 0 where
@@ -94,7 +94,7 @@ pub record ReadsByColumns (s selectors labels witness publics challenges : List 
   pub labels-laid : labels' ≡ cond (isAccepted (r .answer)) (padded (labelsLength sheetRows) (onLabels s (sheetN s) (sheetL s)) (labelsLength (sheetN s))) labels
   pub witness-laid : witness' ≡ cond (isAccepted (r .answer)) (padded (witnessLength sheetRows) (onColumns s (sheetN s) (sheetL s)) (witnessLength (sheetN s))) witness
   pub publics-laid : publics' ≡ cond (isAccepted (r .answer)) (padded sheetRows (onPublics s (sheetN s) (sheetL s)) (sheetL s)) publics
-  pub challenges-laid : challenges' ≡ cond (isAccepted (r .answer)) (padded 4 (onChallenges s (sheetN s) (sheetL s)) 4) challenges
+  pub challenges-laid : challenges' ≡ cond (isAccepted (r .answer)) (padded challengeCount (onChallenges s (sheetN s) (sheetL s)) challengeCount) challenges
 
 -- THE COMPARISON
 

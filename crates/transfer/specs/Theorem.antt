@@ -37,7 +37,7 @@ use Rattle.prover.specs.Promises.{Proves}
 use Rattle.losses.specs.declared.Counted.{Counted}
 use Rattle.losses.specs.Losses.{lostDue, LosesGammas}
 use Rattle.sheet.specs.declared.SheetAnswer.{SheetAnswer}
-use Rattle.sheet.specs.Sheet.{sheetRows, sheetP, sheetN, sheetL, onSelectors, onLabels, onWitness, onPublics, onChallenges, padded, firstReasons, lineReasons, sheetLengths}
+use Rattle.sheet.specs.Sheet.{sheetRows, challengeCount, sheetP, sheetN, sheetL, onSelectors, onLabels, onWitness, onPublics, onChallenges, padded, firstReasons, lineReasons, sheetLengths}
 use Rattle.sheet.specs.Promises.{Reads}
 use Rattle.transfer.specs.Transfer.{toRows}
 use Rattle.transfer.specs.Columns.{columnWitness, ChecksRowsByColumns, ProvesByColumns, LosesGammasByColumns, onColumns, columnsRead, ReadsByColumns, AsBefore}
@@ -217,7 +217,7 @@ module _ (s selectors labels witness publics challenges : List ℕ) where
       answers : AsBefore (r' .answer) (r .answer)
       answers =
           rw (new .answer, old .answer, read-transferred s n l)
-          (as-transferred (sheetP s) n (columnsRead s n l) (length-tab (onColumns s n l) (witnessLength n)) read (tab (onPublics s n l) l ++ tab (onChallenges s n l) 4)
+          (as-transferred (sheetP s) n (columnsRead s n l) (length-tab (onColumns s n l) (witnessLength n)) read (tab (onPublics s n l) l ++ tab (onChallenges s n l) challengeCount)
           (firstReasons s ++ (lineReasons s n l ++ (sheetLengths s (length selectors) (length labels) (length witness) (length publics) (length challenges) ∷ [])))
           (circuitReasons n l read (tab (onLabels s n l) (labelsLength n))))
 
