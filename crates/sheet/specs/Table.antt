@@ -28,10 +28,10 @@ use Rattle.sheet.specs.declared.blocks.Block.{Block}
 use Rattle.sheet.specs.Sheet.{sheetRows, challengeCount, labelField, fieldsDue, lineAt, numberOf, padded}
 
 abbrev pub lineWords : ℕ
-lineWords = 8
+lineWords = 9
 
 abbrev pub tableLines : ℕ
-tableLines = 770
+tableLines = 771
 
 abbrev pub tableLength : ℕ
 tableLength = lineWords * tableLines

@@ -5,10 +5,10 @@ ghost use lib.ListN.{length};
 ghost use Rattle.sheet.specs.Table.{lineWords, tableLines, tableLength, tablePlace};
 
 // The words of a line: at least as many as any line has numbers.
-pub const LINE_WORDS: usize = 8;
+pub const LINE_WORDS: usize = 9;
 
 // The lines: at least as many as ROWS rows and as many public inputs have.
-const TABLE_LINES: usize = 770;
+const TABLE_LINES: usize = 771;
 
 // The words of the table.
 pub const TABLE_LENGTH: usize = LINE_WORDS * TABLE_LINES;
