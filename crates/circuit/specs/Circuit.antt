@@ -7,11 +7,14 @@
 -- Circuit p n l C           C is a circuit of n rows with l public inputs: l is at most n, the selectors of a row are elements, the label of a position
 --                           is below 3n, and the rows below l are public rows
 -- lentConstraints n s l     the constraints in lent selectors and labels, column after column
--- witnessPlace n k          where the wire value of position k stands in a lent witness (document 01: the contents), which is lent row by row
---                           (document 02, request 8): 3 × row + column
--- witnessPosition n j       the position whose wire value stands at place j: column j % 3, row j / 3
--- lentWitness n w k         the wire value of position k, in a lent witness
--- laidWitness n v           the wire values v of the 3n positions, as they are lent
+-- Layout                    how a witness (document 01: the contents) is lent: place n k is where the wire value of position k stands, positionAt n j is the
+--                           position whose wire value stands at place j
+-- lentBy L n w k            the wire value of position k, in a witness that is lent by the layout L
+-- laidBy L n v              the wire values v of the 3n positions, as they are lent by L
+-- witnessPlace n k, witnessPosition n j   a witness is lent row by row (document 02, request 8): position k stands at 3 × row + column, and place j has column
+--                           j % 3 and row j / 3
+-- byRows                    the layout that is so
+-- lentWitness n w k, laidWitness n v   a witness that is lent by it, read and laid
 -- lentPublic x              the public input of a row, in lent public inputs (document 01: public numbers); 0 past their end
 -- permutation m label k     where the copy permutation leads from position k (document 01: the wiring): the next higher of the m positions with
 --                           its label, from the highest to the lowest; a lone position leads to itself
@@ -62,6 +65,16 @@ lentConstraints n selectors labels =
       label = λ k. getD labels k 0;
     }
 
+pub record Layout : Type 0 where
+  pub place : ℕ → ℕ → ℕ
+  pub positionAt : ℕ → ℕ → ℕ
+
+unfoldable pub lentBy : Layout → ℕ → List ℕ → ℕ → ℕ
+lentBy L n witness k = getD witness (L .place n k) 0
+
+unfoldable pub laidBy : Layout → ℕ → (ℕ → ℕ) → List ℕ
+laidBy L n v = tab (λ j. v (L .positionAt n j)) (3 * n)
+
 -- a0, b0, c0, a1 and so on; position k is in column k / n and row k % n
 abbrev pub witnessPlace : ℕ → ℕ → ℕ
 witnessPlace n k = 3 * (k % n) + k / n
@@ -69,11 +82,14 @@ witnessPlace n k = 3 * (k % n) + k / n
 abbrev pub witnessPosition : ℕ → ℕ → ℕ
 witnessPosition n j = position n (j % 3) (j / 3)
 
-unfoldable pub lentWitness : ℕ → List ℕ → ℕ → ℕ
-lentWitness n witness k = getD witness (witnessPlace n k) 0
+unfoldable pub byRows : Layout
+byRows = record { place = witnessPlace; positionAt = witnessPosition }
 
-unfoldable pub laidWitness : ℕ → (ℕ → ℕ) → List ℕ
-laidWitness n v = tab (λ j. v (witnessPosition n j)) (3 * n)
+abbrev pub lentWitness : ℕ → List ℕ → ℕ → ℕ
+lentWitness = lentBy byRows
+
+abbrev pub laidWitness : ℕ → (ℕ → ℕ) → List ℕ
+laidWitness = laidBy byRows
 
 abbrev pub lentPublic : List ℕ → ℕ → ℕ
 lentPublic publics i = getD publics i 0

@@ -22,7 +22,7 @@ use Rattle.algebra.specs.Polynomial.{Elements}
 use Rattle.algebra.specs.PolynomialLaws.{tab-elements}
 use Rattle.algebra.specs.Tables.{getD-tab, tab-ext, tab-getD, all-getD}
 use Rattle.circuit.specs.Buffers.{witnessLength}
-use Rattle.circuit.specs.Circuit.{position, witnessPlace, witnessPosition, lentWitness, laidWitness}
+use Rattle.circuit.specs.Circuit.{position, witnessPlace, witnessPosition, lentBy, laidBy, byRows, lentWitness, laidWitness}
 use Rattle.circuit.specs.Positions.{position-column, position-row, by-position}
 
 pub place-of : (n c i : ℕ) → i < n → witnessPlace n (position n c i) ≡ 3 * i + c
@@ -53,24 +53,24 @@ position-place n = by-position 3 n (λ k. witnessPosition n (witnessPlace n k) �
         rw (place, position-row 3 i c g, position-column 3 i c g)
 
 pub lent-laid : (n : ℕ) (v : ℕ → ℕ) (k : ℕ) → k < 3 * n → lentWitness n (laidWitness n v) k ≡ v k
-unfolding lentWitness laidWitness
+unfolding lentBy laidBy byRows
 lent-laid n v k h = getD-tab (λ j. v (witnessPosition n j)) (3 * n) (witnessPlace n k) (place-below n k h) ∙ ap v (position-place n k h)
 
 pub laid-lent : (n : ℕ) (witness : List ℕ) → length witness ≡ witnessLength n → laidWitness n (lentWitness n witness) ≡ witness
-unfolding lentWitness laidWitness
+unfolding lentBy laidBy byRows
 laid-lent n witness long =
     tab-ext _ (λ j. getD witness j 0) (3 * n) (λ j h. ap (λ (k : ℕ). getD witness k 0) (place-position n j h))
     ∙ ap (tab (λ j. getD witness j 0)) (sym long)
     ∙ tab-getD witness
 
 pub laid-ext : (n : ℕ) (u v : ℕ → ℕ) → ((k : ℕ) → k < 3 * n → u k ≡ v k) → laidWitness n u ≡ laidWitness n v
-unfolding laidWitness
+unfolding laidBy byRows
 laid-ext n u v same = tab-ext _ _ (3 * n) (λ j h. same (witnessPosition n j) (position-below n j h))
 
 pub laid-elements : {p : ℕ} (n : ℕ) (v : ℕ → ℕ) → ((k : ℕ) → k < 3 * n → v k < p) → Elements p (witnessLength n) (laidWitness n v)
-unfolding laidWitness
+unfolding laidBy byRows
 laid-elements n v h = tab-elements (λ j. v (witnessPosition n j)) (3 * n) (λ j l. h (witnessPosition n j) (position-below n j l))
 
 pub lent-below : {p : ℕ} (n : ℕ) {witness : List ℕ} → Elements p (witnessLength n) witness → (k : ℕ) → k < 3 * n → lentWitness n witness k < p
-unfolding lentWitness
+unfolding lentBy byRows
 lent-below {p} n {witness} e k h = all-getD (λ (x : ℕ). x < p) witness (e .below) (witnessPlace n k) (omega (arith, place-below n k h, e .long))

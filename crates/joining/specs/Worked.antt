@@ -18,7 +18,7 @@ use Rattle.algebra.specs.Modular.{first}
 use Rattle.field.specs.Fields.{isField, isCurrent, isRows, greatestRows}
 use Rattle.field.specs.Reasons.{answerOf, firstOther, firstAbove}
 use Rattle.transform.specs.Parts.{laid}
-use Rattle.circuit.specs.Circuit.{lentWitness, laidWitness}
+use Rattle.circuit.specs.Circuit.{lentBy, laidBy, byRows}
 use Rattle.circuit.specs.Reasons.{unboundRow}
 use Rattle.text.specs.Text.{isDigit, digitsEnd, valueOf, isNumberAt, numberAt, fieldAt, isFieldAt, isLineAt, decimalOf, fieldsText, fieldsOf}
 use Rattle.sheet.specs.Sheet.{fieldsDue, lineAt, numberOf, badLine}
@@ -78,7 +78,7 @@ pub record Worked : Type 0 where
   pub label-then-97 : answerOf (joinReasons (with 39 (49 ∷ [])) over97 65536) ≡ record { number = 8; detail = 5 }
 
 pub worked : Worked
-unfolding tab first isDigit digitsEnd valueOf isNumberAt numberAt fieldAt isFieldAt isLineAt fieldsDue lineAt numberOf badLine isField isCurrent isRows greatestRows firstOther firstAbove unboundRow laid decimalOf fieldsText fieldsOf ones lentWitness laidWitness sourceRow joinedAt
+unfolding tab first isDigit digitsEnd valueOf isNumberAt numberAt fieldAt isFieldAt isLineAt fieldsDue lineAt numberOf badLine isField isCurrent isRows greatestRows firstOther firstAbove unboundRow laid decimalOf fieldsText fieldsOf ones lentBy laidBy byRows sourceRow joinedAt
 worked =
     record {
       row-0 = refl;

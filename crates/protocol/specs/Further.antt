@@ -32,7 +32,7 @@ use Rattle.field.specs.Fields.{generator, root, point, multiplier, tag}
 use Rattle.field.specs.Primes.{prime-2013265921}
 use Rattle.transform.specs.Transform.{interpolation}
 use Rattle.transform.specs.Parts.{laid}
-use Rattle.circuit.specs.Circuit.{Constraints, lentConstraints, lentWitness, lentPublic, permutation, gate}
+use Rattle.circuit.specs.Circuit.{Constraints, lentConstraints, lentBy, byRows, lentWitness, lentPublic, permutation, gate}
 use Rattle.circuit.specs.Reasons.{unboundRow}
 use Rattle.protocol.specs.Protocol.{nextZ, runningZ, rowN, rowD, rowZ, zRows, polyN, polyD, polyL, gatePart, stepPart, startPart, polyF, quotient, prepared, wiresOf, zOf, proved, RowVerdict, pass, fails, gateIdentity, startIdentity, stepIdentity, rowsFrom, rowAt, rowVerdict, PointVerdict, accept, reject, pointF, pointVerdict, brokenGate, brokenCopy, zeroFactor}
 use Rattle.protocol.specs.GrandProduct.{z-laid}
@@ -265,7 +265,7 @@ table =
     ∷ []
 
 right : All (λ r. r .is ≡ r .should) table
-unfolding unboundRow tab gathered powF first inverse quotientVanishing reduced generator root point multiplier tag interpolation lentWitness permutation gate rowN rowD runningZ polyN polyD polyL gatePart stepPart startPart polyF quotient laid prepared rowsFrom pointVerdict brokenGate brokenCopy zeroFactor
+unfolding unboundRow tab gathered powF first inverse quotientVanishing reduced generator root point multiplier tag interpolation lentBy byRows permutation gate rowN rowD runningZ polyN polyD polyL gatePart stepPart startPart polyF quotient laid prepared rowsFrom pointVerdict brokenGate brokenCopy zeroFactor
 right = refl & refl & refl & refl & refl & refl & refl & refl & refl & refl & refl & refl & refl & refl & refl & refl & refl & refl & refl & refl & refl & refl & tt
 
 -- THE CASES OF THE LARGEST PRIME
@@ -332,15 +332,15 @@ unfolding runningZ
 next-row i z r e f = ap (nextLargest i) e ∙ f
 
 rows-1 : zLargest 1 ≡ some 176312996
-unfolding runningZ powF generator point multiplier tag lentWitness permutation rowN rowD first
+unfolding runningZ powF generator point multiplier tag lentBy byRows permutation rowN rowD first
 rows-1 = next-row 0 1 176312996 refl (rw (root-4, inverse-D0, nextZ, root-4))
 
 rows-2 : zLargest 2 ≡ some 352415857
-unfolding powF generator point multiplier tag lentWitness permutation rowN rowD first
+unfolding powF generator point multiplier tag lentBy byRows permutation rowN rowD first
 rows-2 = next-row 1 176312996 352415857 rows-1 (rw (root-4, inverse-D1, nextZ, root-4))
 
 rows-3 : zLargest 3 ≡ some 1367991329
-unfolding powF generator point multiplier tag lentWitness permutation rowN rowD first
+unfolding powF generator point multiplier tag lentBy byRows permutation rowN rowD first
 rows-3 = next-row 2 352415857 1367991329 rows-2 (rw (root-4, inverse-D2, nextZ, root-4))
 
 rows-largest : zRows 2013265921 4 (constraints largest) (witness largest) (largest .beta) (largest .gamma) ≡ some zNumbers
@@ -359,7 +359,7 @@ unfolding tab powF generator point interpolation
 z-largest = rw (inverse-4, interpolation, root-4)
 
 largest-right : All (λ r. r .is ≡ r .should) largestTable
-unfolding unboundRow tab gathered powF first quotientVanishing reduced generator point multiplier tag interpolation lentWitness permutation gate rowN rowD runningZ polyN polyD polyL gatePart stepPart startPart polyF quotient laid prepared rowsFrom pointVerdict brokenGate brokenCopy zeroFactor
+unfolding unboundRow tab gathered powF first quotientVanishing reduced generator point multiplier tag interpolation lentBy byRows permutation gate rowN rowD runningZ polyN polyD polyL gatePart stepPart startPart polyF quotient laid prepared rowsFrom pointVerdict brokenGate brokenCopy zeroFactor
 largest-right =
     (rw root-4)
     & refl

@@ -32,7 +32,7 @@ use Rattle.field.specs.Fields.{isField, isCurrent, isRows, greatestRows, genera
 use Rattle.field.specs.Reasons.{answerOf}
 use Rattle.transform.specs.Transform.{interpolation}
 use Rattle.transform.specs.Parts.{laid}
-use Rattle.circuit.specs.Circuit.{Constraints, lentConstraints, lentWitness, lentPublic, permutation, gate}
+use Rattle.circuit.specs.Circuit.{Constraints, lentConstraints, lentBy, byRows, lentWitness, lentPublic, permutation, gate}
 use Rattle.protocol.specs.Protocol.{runningZ, rowN, rowD, zRows, polyN, polyD, polyL, gatePart, stepPart, startPart, polyF, quotient, preparedPoly, prepared, wiresOf, zOf, tOf, proved, RowVerdict, pass, fails, startIdentity, stepIdentity, rowsFrom, rowVerdict, PointVerdict, accept, pointVerdict, brokenGate, brokenCopy, zeroFactor, witnessReasons, proveReasons, tagged, lostGammas, lostPairs}
 
 -- THE SHEET
@@ -134,7 +134,7 @@ pub record Worked : Type 0 where
   pub no-z : (z : ℕ → ℕ) → rowVerdict 17 2 circuit publics rowIs5-7-12 z 1 1 ≢ pass
 
 right : All (λ r. r .is ≡ r .should) table
-unfolding isField isCurrent isRows greatestRows ones tab gathered occurs different powF first inverse quotientVanishing reduced generator root point multiplier tag interpolation lentWitness permutation gate rowN rowD runningZ polyN polyD polyL gatePart stepPart startPart polyF quotient laid prepared rowsFrom pointVerdict brokenGate brokenCopy zeroFactor tagged lostGammas lostPairs
+unfolding isField isCurrent isRows greatestRows ones tab gathered occurs different powF first inverse quotientVanishing reduced generator root point multiplier tag interpolation lentBy byRows permutation gate rowN rowD runningZ polyN polyD polyL gatePart stepPart startPart polyF quotient laid prepared rowsFrom pointVerdict brokenGate brokenCopy zeroFactor tagged lostGammas lostPairs
 right = refl & refl & refl & refl & refl & refl & refl & refl & refl & refl & refl & refl & refl & refl & refl & refl & refl & refl & refl & refl & refl & refl & refl & refl & refl & refl & refl & refl & refl & refl & refl & tt
 
 -- N is 6, 15 and D is 15, 0: the two steps ask for z(1) × 15 to be 6, and to be 0
@@ -146,7 +146,7 @@ byTests start step0 step1 =
     ]
 
 no-z : (z : ℕ → ℕ) → rowVerdict 17 2 circuit publics rowIs5-7-12 z 1 1 ≢ pass
-unfolding tab powF first inverse generator root point multiplier tag lentWitness permutation gate rowN rowD rowsFrom
+unfolding tab powF first inverse generator root point multiplier tag lentBy byRows permutation gate rowN rowD rowsFrom
 no-z z e = go (eqb (z 0) 1) (eqb (z 0 * 6 % 17) (z 1 * 15 % 17)) (eqb (z 1 * 15 % 17) (z 0 * 0 % 17)) refl refl refl e
   where
     go : (start step0 step1 : Bool) → eqb (z 0) 1 ≡ start → eqb (z 0 * 6 % 17) (z 1 * 15 % 17) ≡ step0 → eqb (z 1 * 15 % 17) (z 0 * 0 % 17) ≡ step1

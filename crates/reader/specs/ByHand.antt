@@ -17,7 +17,7 @@ use Rattle.transform.specs.Transform.{evaluation, interpolation}
 use Rattle.transform.specs.Parts.{laid}
 use Rattle.transform.specs.Passes.{strided, oddWord, passed}
 use Rattle.circuit.specs.Buffers.{wirePart, zPart, tPart}
-use Rattle.circuit.specs.Circuit.{Constraints, lentConstraints, lentPublic, witnessPlace, lentWitness, laidWitness, permutation, gate}
+use Rattle.circuit.specs.Circuit.{Constraints, lentConstraints, lentPublic, witnessPlace, lentBy, laidBy, byRows, laidWitness, permutation, gate}
 use Rattle.circuit.specs.Worked.{publicSelectors, labels}
 use Rattle.protocol.specs.Protocol.{wiredTag, runningZ, rowN, rowD, polyN, polyD, polyL, gatePart, stepPart, startPart, polyF, quotient, preparedPoly, prepared, wiresOf, proved, accept, pointVerdict, zeroFactor, tagged, lostGammas}
 use Rattle.protocol.specs.Worked.{circuit, publics, witness, rowIs5-7-12, zWorked, Case, number, inverted, numbers, perhaps, atPoint, _&_}
@@ -183,5 +183,5 @@ table =
     ∷ []
 
 pub by-hand : All (λ r. r .is ≡ r .should) table
-unfolding tab gathered occurs different powF first inverse reduced quotientVanishing remainderVanishing generator root point multiplier tag evaluation interpolation strided passed lentWitness laidWitness permutation rowN rowD runningZ polyN polyD polyL gatePart stepPart startPart polyF quotient laid prepared pointVerdict gate zeroFactor tagged lostGammas polynomialOf evaluationsOf mixtureOf
+unfolding tab gathered occurs different powF first inverse reduced quotientVanishing remainderVanishing generator root point multiplier tag evaluation interpolation strided passed lentBy laidBy byRows permutation rowN rowD runningZ polyN polyD polyL gatePart stepPart startPart polyF quotient laid prepared pointVerdict gate zeroFactor tagged lostGammas polynomialOf evaluationsOf mixtureOf
 by-hand = refl & refl & refl & refl & refl & refl & refl & refl & refl & refl & refl & refl & refl & refl & refl & refl & refl & refl & refl & refl & refl & refl & refl & refl & refl & refl & refl & refl & refl & refl & refl & refl & refl & refl & refl & refl & refl & refl & refl & refl & refl & refl & refl & refl & refl & refl & refl & refl & refl & refl & refl & refl & refl & refl & refl & refl & refl & refl & refl & refl & refl & refl & refl & refl & refl & refl & refl & refl & refl & refl & refl & refl & refl & refl & refl & refl & tt

@@ -23,7 +23,7 @@ use Rattle.algebra.specs.Tables.{length-tab, getD-tab, tab-ext, tab-getD, all-a
 use Rattle.field.specs.Fields.{isField, isRows}
 use Rattle.field.specs.ReasonLaws.{elements-none}
 use Rattle.transform.specs.Parts.{laid}
-use Rattle.circuit.specs.Circuit.{position, witnessPlace, witnessPosition, lentConstraints, lentWitness}
+use Rattle.circuit.specs.Circuit.{position, witnessPlace, witnessPosition, lentConstraints, lentBy, byRows, lentWitness}
 use Rattle.circuit.specs.Buffers.{selectorCount, selectorsLength, labelsLength, witnessLength}
 use Rattle.circuit.specs.Reasons.{unboundRow}
 use Rattle.circuit.specs.Witness.{position-below, place-position}
@@ -113,7 +113,7 @@ module _ (p n l : ℕ) (selectors labels witness publics challenges : List ℕ) 
 
   module _ (right : Right p n l selectors labels witness publics challenges) where
     line-small : (i : ℕ) → Small (sheetLine i)
-    unfolding sheetLine lentWitness
+    unfolding sheetLine lentBy byRows
     line-small i =
         picked Small (eqb i 0) (right .first-small)
         (picked Small (leb i n)
@@ -178,7 +178,7 @@ module _ (p n l : ℕ) (selectors labels witness publics challenges : List ℕ) 
 
     -- the position k at place j: its column and row are those of a line, and its wire value stands at place j again
     witness-back : (j : ℕ) → j < witnessLength n → onWitness lines n l j ≡ getD witness j 0
-    unfolding lentWitness
+    unfolding lentBy byRows
     witness-back j h =
         let k : ℕ = witnessPosition n j in
         let below : k < 3 * n = position-below n j h in

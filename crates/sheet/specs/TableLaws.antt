@@ -16,7 +16,7 @@ use lib.ListN.{length, getD, length-append}
 use Rattle.algebra.specs.Ends.{run-room}
 use Rattle.algebra.specs.Lists.{tab}
 use Rattle.algebra.specs.Tables.{length-tab, getD-tab, tab-ext}
-use Rattle.circuit.specs.Circuit.{position, witnessPosition, isPublicRow, lentConstraints, lentWitness, laidWitness}
+use Rattle.circuit.specs.Circuit.{position, witnessPosition, isPublicRow, lentConstraints, laidBy, byRows, lentWitness}
 use Rattle.circuit.specs.Buffers.{selectorCount, selectorsLength, labelsLength, witnessLength}
 use Rattle.circuit.specs.Positions.{position-column, position-row}
 use Rattle.circuit.specs.Witness.{lent-laid}
@@ -27,7 +27,7 @@ use Rattle.sheet.specs.Due.{due-circuit, due-witness, due-publics, due-c
 use Rattle.sheet.specs.Table.{lineWords, tablePlace, selectorsBlock, placeIn, Full, Held, selectorsIn, labelsIn, witnessIn, publicsIn, challengesIn, tableElements}
 
 pub on-position : (s : List ℕ) (n l c i : ℕ) → c < 3 → i < n → lentWitness n (tab (onWitness s n l) (witnessLength n)) (position n c i) ≡ numberOf s n l (n + suc i) c
-unfolding laidWitness
+unfolding laidBy byRows
 on-position s n l c i g h =
     lent-laid n (λ k. numberOf s n l (n + suc (k % n)) (k / n)) (position n c i) (omega (arith, run-room c 3 n g))
     ∙ ap₂ (λ (r c : ℕ). numberOf s n l (n + suc r) c) (position-row n c i h) (position-column n c i h)

@@ -17,7 +17,7 @@ use Rattle.algebra.specs.Modular.{first}
 use Rattle.field.specs.Fields.{isField, isCurrent, isRows, greatestRows}
 use Rattle.field.specs.Reasons.{answerOf, firstOther, firstAbove}
 use Rattle.transform.specs.Parts.{laid}
-use Rattle.circuit.specs.Circuit.{lentWitness}
+use Rattle.circuit.specs.Circuit.{lentBy, byRows}
 use Rattle.circuit.specs.Reasons.{unboundRow}
 use Rattle.text.specs.Text.{isDigit, digitsEnd, valueOf, isNumberAt, numberAt, fieldAt, isFieldAt, isLineAt, decimalOf, fieldsText, fieldsOf}
 use Rattle.sheet.specs.Sheet.{fieldsDue, lineAt, numberOf, sheetP, sheetN, sheetL, badLine, onSelectors, onLabels, onWitness, onPublics, onChallenges, sheetReasons, readAnswer, newAnswer}
@@ -118,7 +118,7 @@ pub record Worked : Type 0 where
   pub new-label : newAnswer (with 39 (49 ∷ [])) ≡ record { number = 8; detail = 5 }
 
 pub worked : Worked
-unfolding tab first isDigit digitsEnd valueOf isNumberAt numberAt fieldAt isFieldAt isLineAt fieldsDue lineAt numberOf badLine isField isCurrent isRows greatestRows firstOther firstAbove unboundRow laid decimalOf fieldsText fieldsOf ones lentWitness
+unfolding tab first isDigit digitsEnd valueOf isNumberAt numberAt fieldAt isFieldAt isLineAt fieldsDue lineAt numberOf badLine isField isCurrent isRows greatestRows firstOther firstAbove unboundRow laid decimalOf fieldsText fieldsOf ones lentBy byRows
 worked =
     record {
       p-is = refl;

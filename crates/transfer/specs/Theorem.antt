@@ -24,7 +24,7 @@ use Rattle.field.specs.declared.Answer.{Answer}
 use Rattle.field.specs.Fields.{greatestRows}
 use Rattle.field.specs.Reasons.{Reason, answerOf, isAccepted, badField, retiredField, badRows, badPublics, badLengths, badElement, lentReasons}
 use Rattle.transform.specs.Transform.{scratchLength}
-use Rattle.circuit.specs.Circuit.{Constraints, lentConstraints, lentPublic, lentWitness, laidWitness}
+use Rattle.circuit.specs.Circuit.{Constraints, lentConstraints, lentPublic, laidBy, byRows, lentWitness}
 use Rattle.circuit.specs.Buffers.{selectorsLength, labelsLength, witnessLength}
 use Rattle.circuit.specs.Reasons.{circuitReasons, rowsDue, proveDue}
 use Rattle.circuit.specs.Witness.{laid-ext}
@@ -171,7 +171,7 @@ module _ (p n : ℕ) (columns : List ℕ) (long : length columns ≡ witnessLeng
 
 -- what is laid now is what was laid, transferred
 read-transferred : (s : List ℕ) (n l : ℕ) → tab (onWitness s n l) (witnessLength n) ≡ toRows n (columnsRead s n l)
-unfolding laidWitness
+unfolding laidBy byRows
 read-transferred s n l = laid-ext n (onColumns s n l) _ (λ k h. sym (getD-tab (onColumns s n l) (3 * n) k h))
 
 module _ (s selectors labels witness publics challenges : List ℕ) where
@@ -186,7 +186,7 @@ module _ (s selectors labels witness publics challenges : List ℕ) where
       → witness' ≡ cond b (padded (witnessLength sheetRows) (onColumns s (sheetN s) (sheetL s)) (witnessLength (sheetN s))) witness
       → cond b (padded (witnessLength sheetRows) (onWitness s (sheetN s) (sheetL s)) (witnessLength (sheetN s))) witness
       ≡ toRows m (take (witnessLength m) witness') ++ drop (witnessLength m) witness'
-  unfolding laidWitness tab
+  unfolding laidBy byRows tab
   laid-now true m witness' e f =
       let zeros : List ℕ = replicate (witnessLength sheetRows - witnessLength n) 0 in
       let front : take (witnessLength n) (columnsRead s n l ++ zeros) ≡ columnsRead s n l = take-at (columnsRead s n l) zeros (witnessLength n) (length-tab (onColumns s n l) (witnessLength n)) in

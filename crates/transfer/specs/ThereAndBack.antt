@@ -14,7 +14,7 @@ use native.Mathlib.Omega.{arith}
 use lib.ListN.{length, getD}
 use Rattle.algebra.specs.Lists.{tab, All}
 use Rattle.algebra.specs.Tables.{length-tab, getD-tab, tab-ext, tab-getD, all-tab, all-getD}
-use Rattle.circuit.specs.Circuit.{lentWitness, laidWitness}
+use Rattle.circuit.specs.Circuit.{laidBy, byRows, lentWitness}
 use Rattle.circuit.specs.Buffers.{witnessLength}
 use Rattle.circuit.specs.Witness.{lent-laid, laid-lent, laid-ext, laid-elements, lent-below}
 use Rattle.transfer.specs.Transfer.{toRows, toColumns}
@@ -34,7 +34,7 @@ there-and-back n xs long =
     }
 
 pub rows-long : (n : ℕ) (columns : List ℕ) → length (toRows n columns) ≡ witnessLength n
-unfolding laidWitness
+unfolding laidBy byRows
 rows-long n columns = length-tab _ (3 * n)
 
 module _ (p n : ℕ) (columns : List ℕ) (long : length columns ≡ witnessLength n) where

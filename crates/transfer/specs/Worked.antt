@@ -14,7 +14,7 @@ use Rattle.algebra.specs.Lists.{tab}
 use Rattle.algebra.specs.Modular.{first}
 use Rattle.field.specs.Fields.{isField, isRows, greatestRows}
 use Rattle.field.specs.Reasons.{answerOf, firstOther, firstAbove}
-use Rattle.circuit.specs.Circuit.{lentWitness, laidWitness}
+use Rattle.circuit.specs.Circuit.{lentBy, laidBy, byRows}
 use Rattle.circuit.specs.Promises.{anyRows}
 use Rattle.losses.specs.Losses.{lostReasons}
 use Rattle.text.specs.Text.{isDigit, digitsEnd, valueOf, numberAt, fieldAt}
@@ -55,7 +55,7 @@ pub record Worked : Type 0 where
   pub written-short : answerOf (transferReasons 4 twelve rows) ≡ record { number = 6; detail = 2 }
 
 pub worked : Worked
-unfolding tab first ones isField isRows greatestRows anyRows firstOther firstAbove lentWitness laidWitness isDigit digitsEnd valueOf numberAt fieldAt fieldsDue lineAt numberOf
+unfolding tab first ones isField isRows greatestRows anyRows firstOther firstAbove lentBy laidBy byRows isDigit digitsEnd valueOf numberAt fieldAt fieldsDue lineAt numberOf
 worked =
     record {
       to-rows = refl;

@@ -7,7 +7,7 @@ use lib.ListN.{length, getD, drop, length-set}
 use borrow.Author.Needs.{needs}
 use Rattle.algebra.specs.Lists.{tab}
 use Rattle.algebra.specs.Tables.{wrote-none, wrote-more, wrote-all}
-use Rattle.circuit.specs.Circuit.{witnessPosition, laidWitness}
+use Rattle.circuit.specs.Circuit.{witnessPosition, laidBy, byRows}
 use Rattle.circuit.specs.Witness.{position-below}
 use Rattle.transfer.proofs.lay_rows.Statement.{statement}
 use Rattle.transfer.proofs.lay_rows.Tie as tie
@@ -59,7 +59,7 @@ same-length : tie.Need-same-length Inv-loop μ-loop
 same-length c = search needs
 
 returns : tie.Need-returns Inv-loop μ-loop
-unfolding laidWitness
+unfolding laidBy byRows
 returns c =
     let s = c .before .before in
     let inv = c .before .loop .inv in

@@ -3,7 +3,7 @@ use mathlib.Core.Path.{sym, ap}
 use Prim.Native.Nat.{ℕ}
 use lib.ListN.{getD}
 use borrow.Author.Needs.{needs}
-use Rattle.circuit.specs.Circuit.{lentWitness}
+use Rattle.circuit.specs.Circuit.{lentBy, byRows}
 use Rattle.circuit.specs.Witness.{place-of}
 use Rattle.circuit.proofs.witness.wire_value.Statement.{statement}
 use Rattle.circuit.proofs.witness.wire_value.Tie as tie
@@ -21,7 +21,7 @@ shared-slice-read-result : tie.Need-shared-slice-read-result
 shared-slice-read-result c = search needs
 
 returns : tie.Need-returns
-unfolding lentWitness
+unfolding lentBy byRows
 returns c =
     let a = c .before .args in
     ap (λ (j : ℕ). getD (a .witness .now) j 0) (sym (place-of (a .n) (a .column) (a .row) (c .before .pre .2)))
