@@ -1,7 +1,9 @@
 -- What `prove` promises.
 --
--- provedFrom    the transcript that the prover lays for lent buffers, where there is a z; the challenges are beta, gamma, alpha in that order
--- Proves        refused: transcript and scratch as they came; accepted: there is a transcript, and it is laid, with zeros in the scratch
+-- provedFromWith L      the transcript that the prover lays for lent buffers, where there is a z; the challenges are beta, gamma, alpha in that order, and the
+--                       witness is lent by the layout L
+-- ProvesWith L          refused: transcript and scratch as they came; accepted: there is a transcript, and it is laid, with zeros in the scratch
+-- provedFrom, Proves    the same by the layout of today
 --
 -- Assumes nothing.
 use mathlib.Core.Path.{_≡_}
@@ -13,15 +15,22 @@ use lib.ListN.{getD, replicate}
 use Rattle.field.specs.declared.Answer.{Answer}
 use Rattle.field.specs.Reasons.{answerOf, isAccepted}
 use Rattle.transform.specs.Transform.{scratchLength}
-use Rattle.circuit.specs.Circuit.{lentConstraints, lentPublic, lentWitness}
-use Rattle.protocol.specs.Protocol.{proved, proveReasons}
+use Rattle.circuit.specs.Circuit.{Layout, lentConstraints, lentPublic, lentBy, byRows}
+use Rattle.protocol.specs.Protocol.{proved, proveReasonsWith}
 
-abbrev pub provedFrom : (p n : ℕ) (selectors labels witness publics challenges : List ℕ) → Option (List ℕ)
-provedFrom p n selectors labels witness publics challenges =
-    proved p n (lentConstraints n selectors labels) (lentPublic publics) (lentWitness n witness) (getD challenges 0 0) (getD challenges 1 0) (getD challenges 2 0)
+abbrev pub provedFromWith : (L : Layout) (p n : ℕ) (selectors labels witness publics challenges : List ℕ) → Option (List ℕ)
+provedFromWith L p n selectors labels witness publics challenges =
+    proved p n (lentConstraints n selectors labels) (lentPublic publics) (lentBy L n witness) (getD challenges 0 0) (getD challenges 1 0) (getD challenges 2 0)
 
 -- selectors, labels, witness, public inputs and challenges are only read
-pub record Proves (p n l : ℕ) (selectors labels witness publics transcript challenges scratch : List ℕ) (r : Answer) (transcript' scratch' : List ℕ) : Type 0 where
-  pub answer : r ≡ answerOf (proveReasons p n l selectors labels witness publics transcript challenges scratch)
-  pub lays : some transcript' ≡ cond (isAccepted r) (provedFrom p n selectors labels witness publics challenges) (some transcript)
+pub record ProvesWith (L : Layout) (p n l : ℕ) (selectors labels witness publics transcript challenges scratch : List ℕ) (r : Answer) (transcript' scratch' : List ℕ)
+    : Type 0 where
+  pub answer : r ≡ answerOf (proveReasonsWith L p n l selectors labels witness publics transcript challenges scratch)
+  pub lays : some transcript' ≡ cond (isAccepted r) (provedFromWith L p n selectors labels witness publics challenges) (some transcript)
   pub cleared : scratch' ≡ cond (isAccepted r) (replicate (scratchLength n) 0) scratch
+
+abbrev pub provedFrom : (p n : ℕ) (selectors labels witness publics challenges : List ℕ) → Option (List ℕ)
+provedFrom = provedFromWith byRows
+
+abbrev pub Proves : (p n l : ℕ) (selectors labels witness publics transcript challenges scratch : List ℕ) (r : Answer) (transcript' scratch' : List ℕ) → Type 0
+Proves = ProvesWith byRows
