@@ -13,22 +13,26 @@
 -- badLine s n l        the lowest line from 1 on that is missing or out of form; linesDue where there is none
 -- isExtra s n l        something stands behind the last line that is due
 -- NUMBERS AS THEY ARE LENT
--- onSelectors, onLabels, onWitness, onPublics, onChallenges   number k of each buffer
+-- onPosition s n l k   the wire value of position k
+-- onSelectors, onLabels, onWitnessWith L, onPublics, onChallenges   number k of each buffer; the witness is lent by the layout L
 -- padded m f count     count numbers, and zeros behind them up to m
 -- REASONS
 -- tooLong s            the sheet has more than 65,536 bytes
--- sheetElements s n l  the elements in the order of 7
+-- sheetElementsWith L s n l   the elements in the order of 7
 -- badFirst s           1: the sheet is too long, or its first line is missing or out of form
 -- firstReasons         of the first line: this, and those of p, n and l, which stand on it
 -- lineReasons          of the lines behind it
 -- sheetDue bytes       the lengths due, for a sheet of so many bytes
--- sheetNumbers         of the elements, labels and public rows, as they are lent
--- behindReasons        all reasons behind those of the first line; `lengths` are those of a call's lent buffers, which stand between the lines and the numbers
--- readReasons s lengths   all reasons of a call that reads the sheet s
+-- sheetNumbersWith L   of the elements, labels and public rows, as they are lent
+-- behindReasonsWith L  all reasons behind those of the first line; `lengths` are those of a call's lent buffers, which stand between the lines and the numbers
+-- readReasonsWith L s lengths   all reasons of a call that reads the sheet s
 -- sheetLengths         6 of `read`, for the lengths of the five lent buffers
--- sheetReasons         all reasons of `read`
+-- sheetReasonsWith L   all reasons of `read`
+-- newReasonsWith L s lengths, newAnswerWith L s   for a call that takes s as a new sheet (document 02, request 7): 16 straight after 2; the answer of its own reasons,
+--                      the buffers having the lengths due
+-- BY THE LAYOUT OF TODAY
+-- onWitness, sheetElements, sheetNumbers, behindReasons, readReasons, sheetReasons, newReasons, newAnswer   the same, row by row
 -- readAnswer s         the answer of the sheet's own reasons: of reading it into buffers of the lengths due
--- newReasons s lengths, newAnswer s   the same for a call that takes s as a new sheet (document 02, request 7): 16 straight after 2
 --
 -- Assumes nothing.
 use mathlib.Core.Bool.{Bool, not, cond, _||_}
@@ -40,7 +44,7 @@ use Rattle.algebra.specs.Lists.{tab}
 use Rattle.algebra.specs.Modular.{first}
 use Rattle.field.specs.declared.Answer.{Answer}
 use Rattle.field.specs.Reasons.{Reason, answerOf, shapeReasons, badLengths, currentOnly}
-use Rattle.circuit.specs.Circuit.{witnessPosition}
+use Rattle.circuit.specs.Circuit.{Layout, byRows}
 use Rattle.circuit.specs.Buffers.{selectorCount, selectorsLength, labelsLength, witnessLength}
 use Rattle.circuit.specs.Reasons.{numberReasons}
 use Rattle.text.specs.Text.{numberAt, fieldAt, isLineAt}
@@ -98,11 +102,12 @@ onSelectors s n l k = numberOf s n l (suc (k % n)) (k / n)
 abbrev pub onLabels : List ℕ → ℕ → ℕ → ℕ → ℕ
 onLabels s n l k = numberOf s n l (suc (k % n)) (labelField + k / n)
 
--- the witness is lent row by row: number j is the wire value of the position that stands there, of which k / n and k % n are column and row
-abbrev pub onWitness : List ℕ → ℕ → ℕ → ℕ → ℕ
-onWitness s n l j =
-    let k : ℕ = witnessPosition n j in
-    numberOf s n l (n + suc (k % n)) (k / n)
+-- position k too is in column k / n and row k % n
+abbrev pub onPosition : List ℕ → ℕ → ℕ → ℕ → ℕ
+onPosition s n l k = numberOf s n l (n + suc (k % n)) (k / n)
+
+abbrev pub onWitnessWith : Layout → List ℕ → ℕ → ℕ → ℕ → ℕ
+onWitnessWith L s n l j = onPosition s n l (L .positionAt n j)
 
 abbrev pub onPublics : List ℕ → ℕ → ℕ → ℕ → ℕ
 onPublics s n l k = numberOf s n l (n + n + suc k) 0
@@ -119,9 +124,9 @@ abbrev pub tooLong : List ℕ → Bool
 tooLong s = ltb 65536 (length s)
 
 -- the elements in the order of 7: selectors, witness, public inputs, challenges
-abbrev pub sheetElements : List ℕ → ℕ → ℕ → List ℕ
-sheetElements s n l =
-    tab (onSelectors s n l) (selectorsLength n) ++ (tab (onWitness s n l) (witnessLength n) ++ (tab (onPublics s n l) l ++ tab (onChallenges s n l) challengeCount))
+abbrev pub sheetElementsWith : Layout → List ℕ → ℕ → ℕ → List ℕ
+sheetElementsWith L s n l =
+    tab (onSelectors s n l) (selectorsLength n) ++ (tab (onWitnessWith L s n l) (witnessLength n) ++ (tab (onPublics s n l) l ++ tab (onChallenges s n l) challengeCount))
 
 abbrev pub badFirst : List ℕ → Reason
 badFirst s = record { number = 1; detail = 0; applies = tooLong s || not (isLineAt s 0 3) }
@@ -138,28 +143,54 @@ abbrev pub sheetDue : ℕ → List ℕ
 sheetDue bytes =
     bytes ∷ selectorsLength sheetRows ∷ labelsLength sheetRows ∷ witnessLength sheetRows ∷ sheetRows ∷ challengeCount ∷ []
 
-abbrev pub sheetNumbers : List ℕ → ℕ → ℕ → ℕ → List Reason
-sheetNumbers s p n l =
-    numberReasons p n l (sheetElements s n l) (tab (onSelectors s n l) (selectorsLength n)) (tab (onLabels s n l) (labelsLength n))
+abbrev pub sheetNumbersWith : Layout → List ℕ → ℕ → ℕ → ℕ → List Reason
+sheetNumbersWith L s p n l =
+    numberReasons p n l (sheetElementsWith L s n l) (tab (onSelectors s n l) (selectorsLength n)) (tab (onLabels s n l) (labelsLength n))
 
-abbrev pub behindReasons : (s : List ℕ) (p n l : ℕ) (lengths : List Reason) → List Reason
-behindReasons s p n l lengths = lineReasons s n l ++ (lengths ++ sheetNumbers s p n l)
+abbrev pub behindReasonsWith : (L : Layout) (s : List ℕ) (p n l : ℕ) (lengths : List Reason) → List Reason
+behindReasonsWith L s p n l lengths = lineReasons s n l ++ (lengths ++ sheetNumbersWith L s p n l)
 
-abbrev pub readReasons : (s : List ℕ) (lengths : List Reason) → List Reason
-readReasons s lengths = firstReasons s ++ behindReasons s (sheetP s) (sheetN s) (sheetL s) lengths
+abbrev pub readReasonsWith : (L : Layout) (s : List ℕ) (lengths : List Reason) → List Reason
+readReasonsWith L s lengths = firstReasons s ++ behindReasonsWith L s (sheetP s) (sheetN s) (sheetL s) lengths
 
 abbrev pub sheetLengths : (s : List ℕ) (selectors labels witness publics challenges : ℕ) → Reason
 sheetLengths s selectors labels witness publics challenges =
     badLengths (length s ∷ selectors ∷ labels ∷ witness ∷ publics ∷ challenges ∷ []) (sheetDue (length s))
 
+abbrev pub sheetReasonsWith : (L : Layout) (s : List ℕ) (selectors labels witness publics challenges : ℕ) → List Reason
+sheetReasonsWith L s selectors labels witness publics challenges = readReasonsWith L s (sheetLengths s selectors labels witness publics challenges ∷ [])
+
+abbrev pub newReasonsWith : (L : Layout) (s : List ℕ) (lengths : List Reason) → List Reason
+newReasonsWith L s lengths = currentOnly (sheetP s) (readReasonsWith L s lengths)
+
+abbrev pub newAnswerWith : Layout → List ℕ → Answer
+newAnswerWith L s = answerOf (newReasonsWith L s [])
+
+-- BY THE LAYOUT OF TODAY
+
+abbrev pub onWitness : List ℕ → ℕ → ℕ → ℕ → ℕ
+onWitness = onWitnessWith byRows
+
+abbrev pub sheetElements : List ℕ → ℕ → ℕ → List ℕ
+sheetElements = sheetElementsWith byRows
+
+abbrev pub sheetNumbers : List ℕ → ℕ → ℕ → ℕ → List Reason
+sheetNumbers = sheetNumbersWith byRows
+
+abbrev pub behindReasons : (s : List ℕ) (p n l : ℕ) (lengths : List Reason) → List Reason
+behindReasons = behindReasonsWith byRows
+
+abbrev pub readReasons : (s : List ℕ) (lengths : List Reason) → List Reason
+readReasons = readReasonsWith byRows
+
 abbrev pub sheetReasons : (s : List ℕ) (selectors labels witness publics challenges : ℕ) → List Reason
-sheetReasons s selectors labels witness publics challenges = readReasons s (sheetLengths s selectors labels witness publics challenges ∷ [])
+sheetReasons = sheetReasonsWith byRows
 
 abbrev pub readAnswer : List ℕ → Answer
 readAnswer s = answerOf (readReasons s [])
 
 abbrev pub newReasons : (s : List ℕ) (lengths : List Reason) → List Reason
-newReasons s lengths = currentOnly (sheetP s) (readReasons s lengths)
+newReasons = newReasonsWith byRows
 
 abbrev pub newAnswer : List ℕ → Answer
-newAnswer s = answerOf (newReasons s [])
+newAnswer = newAnswerWith byRows

@@ -22,14 +22,14 @@ use Rattle.circuit.specs.Positions.{position-column, position-row}
 use Rattle.circuit.specs.Witness.{lent-laid}
 use Rattle.circuit.specs.Reasons.{unboundRow}
 use Rattle.circuit.specs.Selectors.{isPublicAt, unboundIn, unbound-same}
-use Rattle.sheet.specs.Sheet.{challengeCount, labelField, fieldsDue, linesDue, numberOf, onSelectors, onLabels, onWitness, onPublics, onChallenges, sheetElements}
+use Rattle.sheet.specs.Sheet.{challengeCount, labelField, fieldsDue, linesDue, numberOf, onSelectors, onLabels, onPosition, onWitness, onPublics, onChallenges, sheetElements}
 use Rattle.sheet.specs.Due.{due-circuit, due-witness, due-publics, due-challenges}
 use Rattle.sheet.specs.Table.{lineWords, tablePlace, selectorsBlock, placeIn, Full, Held, selectorsIn, labelsIn, witnessIn, publicsIn, challengesIn, tableElements}
 
 pub on-position : (s : List ℕ) (n l c i : ℕ) → c < 3 → i < n → lentWitness n (tab (onWitness s n l) (witnessLength n)) (position n c i) ≡ numberOf s n l (n + suc i) c
 unfolding laidBy byRows
 on-position s n l c i g h =
-    lent-laid n (λ k. numberOf s n l (n + suc (k % n)) (k / n)) (position n c i) (omega (arith, run-room c 3 n g))
+    lent-laid n (onPosition s n l) (position n c i) (omega (arith, run-room c 3 n g))
     ∙ ap₂ (λ (r c : ℕ). numberOf s n l (n + suc r) c) (position-row n c i h) (position-column n c i h)
 
 module _ (s : List ℕ) (n l : ℕ) (t : List ℕ) (full : Full n l t) (held : Held s n l (linesDue n l) t) where
@@ -57,6 +57,7 @@ module _ (s : List ℕ) (n l : ℕ) (t : List ℕ) (full : Full n l t) (held : H
 
   -- column and row of the position at place j of the witness are j % 3 and j / 3
   pub witness-same : (j : ℕ) → j < witnessLength n → witnessIn t n j ≡ onWitness s n l j
+  unfolding byRows
   witness-same j h =
       let k : ℕ = witnessPosition n j in
       let a : j / 3 < n = div-lt-iff-lt-mul {k = 3} {x = j} {y = n} (omega arith) .1 (omega arith) in
