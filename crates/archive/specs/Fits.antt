@@ -24,10 +24,10 @@ use Rattle.protocol.specs.Layout.{proved-elements}
 use Rattle.archive.specs.declared.Deposited.{Deposited}
 use Rattle.text.specs.Text.{refusedWord, refusedText}
 use Rattle.text.specs.Puts.{length-line}
-use Rattle.archive.specs.Printed.{verdictText, transcriptText, textLength, provedText, workAnswer, workText}
+use Rattle.archive.specs.Printed.{verdictText, transcriptText, textLength, provedText, workAnswer, workTextWith, workText}
 use Rattle.archive.specs.Lines.{transcript-fits}
 use Rattle.sheet.specs.Sheet.{newAnswer}
-use Rattle.archive.specs.Deposit.{depositText, Deposits}
+use Rattle.archive.specs.Deposit.{depositTextWith, depositText, Deposits}
 use Rattle.archive.specs.Sheets.{right-of}
 
 either-fits : (b : Bool) (x y : List ℕ) → (b ≡ true → length x ≤ textLength) → length y ≤ textLength → length (cond b x y) ≤ textLength
@@ -49,7 +49,7 @@ proved-fits p n C x T beta gamma alpha zeta few long =
 
 work-fits : {p n : ℕ} → Domain p n → (l : ℕ) (selectors labels witness publics challenges : List ℕ) → 1 ≤ n → n ≤ 256
     → length (workText p n l selectors labels witness publics challenges) ≤ textLength
-unfolding workText
+unfolding workTextWith
 work-fits {p} {n} D l selectors labels witness publics challenges some-rows few =
     go (isAccepted r) (proved p n C x v beta gamma alpha) (λ T. proved-elements D C x v beta gamma alpha T some-rows)
   where
@@ -84,7 +84,7 @@ work-fits {p} {n} D l selectors labels witness publics challenges some-rows few 
     go true (some T) h = proved-fits p n C x T beta gamma alpha (getD challenges 3 0) few (h T refl .long)
 
 pub text-fits : (s : List ℕ) → length (depositText s) ≤ textLength
-unfolding depositText
+unfolding depositTextWith
 text-fits s =
     either-fits (isAccepted (newAnswer s)) _ _
     (λ e.

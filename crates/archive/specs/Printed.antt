@@ -9,9 +9,10 @@
 -- textLength             the length of the lent buffer
 -- THE TEXT OF A DEPOSIT
 -- provedText             the lines of a transcript and of the verdict on it, of constraints, public inputs and beta, gamma, alpha, zeta
--- workAnswer             the prover's answer for a sheet's numbers
--- workTranscript         the transcript that it lays for them; none if refused
--- workText               provedText of it, or the refusal
+-- workAnswerWith L       the prover's answer for a sheet's numbers, the witness being lent by the layout L
+-- workTranscriptWith L   the transcript that it lays for them; none if refused
+-- workTextWith L         provedText of it, or the refusal
+-- workAnswer, workTranscript, workText   the same by the layout of today
 --
 -- Assumes nothing.
 use mathlib.Core.Bool.{cond}
@@ -22,9 +23,9 @@ use lib.ListN.{getD, take, replicate}
 use Rattle.field.specs.declared.Answer.{Answer}
 use Rattle.field.specs.Reasons.{answerOf, isAccepted}
 use Rattle.transform.specs.Transform.{scratchLength}
-use Rattle.circuit.specs.Circuit.{Constraints, lentConstraints, lentPublic, lentWitness}
+use Rattle.circuit.specs.Circuit.{Constraints, Layout, lentConstraints, lentPublic, lentBy, byRows}
 use Rattle.circuit.specs.Buffers.{transcriptLength, wirePart, zPart, tPart}
-use Rattle.protocol.specs.Protocol.{prepared, proved, PointVerdict, accept, reject, pointVerdict, proveReasons}
+use Rattle.protocol.specs.Protocol.{prepared, proved, PointVerdict, accept, reject, pointVerdict, proveReasonsWith}
 use Rattle.pointcheck.specs.declared.Judged.{Judged}
 use Rattle.pointcheck.specs.declared.Judged.the-variants.{None, Accept, Reject}
 use Rattle.text.specs.Text.{lineText, refusedText}
@@ -67,22 +68,31 @@ provedText p n C x transcript beta gamma alpha zeta =
     transcriptText n transcript ++ verdictText (pointVerdict p n (prepared p n C) x transcript beta gamma alpha zeta)
 
 -- the prover's answer for a sheet's numbers; the other two buffers have the lengths that are due
-unfoldable pub workAnswer : (p n l : ℕ) (selectors labels witness publics challenges : List ℕ) → Answer
-workAnswer p n l selectors labels witness publics challenges =
+unfoldable pub workAnswerWith : (L : Layout) (p n l : ℕ) (selectors labels witness publics challenges : List ℕ) → Answer
+workAnswerWith L p n l selectors labels witness publics challenges =
     answerOf
-    (proveReasons p n l selectors labels witness publics (replicate (transcriptLength n) 0) (take 3 challenges) (replicate (scratchLength n) 0))
+    (proveReasonsWith L p n l selectors labels witness publics (replicate (transcriptLength n) 0) (take 3 challenges) (replicate (scratchLength n) 0))
 
-abbrev pub workTranscript : (p n l : ℕ) (selectors labels witness publics challenges : List ℕ) → Option (List ℕ)
-workTranscript p n l selectors labels witness publics challenges =
-    cond (isAccepted (workAnswer p n l selectors labels witness publics challenges))
-    (proved p n (lentConstraints n selectors labels) (lentPublic publics) (lentWitness n witness) (getD challenges 0 0) (getD challenges 1 0) (getD challenges 2 0))
+abbrev pub workTranscriptWith : (L : Layout) (p n l : ℕ) (selectors labels witness publics challenges : List ℕ) → Option (List ℕ)
+workTranscriptWith L p n l selectors labels witness publics challenges =
+    cond (isAccepted (workAnswerWith L p n l selectors labels witness publics challenges))
+    (proved p n (lentConstraints n selectors labels) (lentPublic publics) (lentBy L n witness) (getD challenges 0 0) (getD challenges 1 0) (getD challenges 2 0))
     none
 
-unfoldable pub workText : (p n l : ℕ) (selectors labels witness publics challenges : List ℕ) → List ℕ
-workText p n l selectors labels witness publics challenges =
-    let r : Answer = workAnswer p n l selectors labels witness publics challenges in
-    elim (workTranscript p n l selectors labels witness publics challenges) [
+unfoldable pub workTextWith : (L : Layout) (p n l : ℕ) (selectors labels witness publics challenges : List ℕ) → List ℕ
+workTextWith L p n l selectors labels witness publics challenges =
+    let r : Answer = workAnswerWith L p n l selectors labels witness publics challenges in
+    elim (workTranscriptWith L p n l selectors labels witness publics challenges) [
       | none ↦ refusedText (r .number) (r .detail)
       | some transcript ↦
           provedText p n (lentConstraints n selectors labels) (lentPublic publics) transcript (getD challenges 0 0) (getD challenges 1 0) (getD challenges 2 0) (getD challenges 3 0)
     ]
+
+abbrev pub workAnswer : (p n l : ℕ) (selectors labels witness publics challenges : List ℕ) → Answer
+workAnswer = workAnswerWith byRows
+
+abbrev pub workTranscript : (p n l : ℕ) (selectors labels witness publics challenges : List ℕ) → Option (List ℕ)
+workTranscript = workTranscriptWith byRows
+
+abbrev pub workText : (p n l : ℕ) (selectors labels witness publics challenges : List ℕ) → List ℕ
+workText = workTextWith byRows

@@ -41,7 +41,7 @@ use Rattle.sheet.specs.declared.SheetAnswer.{SheetAnswer}
 use Rattle.sheet.specs.Promises.{Reads}
 use Rattle.archive.specs.Printed.{textLength, workText}
 use Rattle.archive.specs.Work.{Workable}
-use Rattle.archive.specs.Deposit.{depositText, depositDue, depositReasons, Deposits}
+use Rattle.archive.specs.Deposit.{depositTextWith, depositText, depositDue, depositReasons, Deposits}
 
 pub record Right (s : List ℕ) : Type 0 where
   pub admissible : Admissible (sheetP s) (sheetN s)
@@ -68,14 +68,14 @@ right-of s e =
     }
 
 pub prime-text : (s : List ℕ) (a : Answer) → a ≡ answerOf (primeLine s) → a .number ≢ 0 → refusedText (a .number) (a .detail) ≡ depositText s
-unfolding depositText
+unfolding depositTextWith
 prime-text s a e h =
     let is : a ≡ newAnswer s = new-refused s [] a e h in
     let no : isAccepted (newAnswer s) ≡ false = ap isAccepted (sym is) ∙ ne-eqb (a .number) 0 h in
     rw (no, is)
 
 pub retired-text : (s : List ℕ) → badFirst s .applies ≡ false → sheetP s ≡ 97 → depositText s ≡ refusedText 16 0
-unfolding depositText
+unfolding depositTextWith
 retired-text s h e = rw (new-retired s [] h e)
 
 -- READ INTO ARRAYS OF THE LENGTHS THAT ARE DUE
@@ -136,7 +136,7 @@ module _ (s selectors labels witness publics challenges : List ℕ) (r : SheetAn
 
     pub sheet-text : workText (r .p) (r .n) (r .l) (take (selectorsLength (r .n)) selectors') (take (labelsLength (r .n)) labels') (take (witnessLength (r .n)) witness') (take (r .l) publics') challenges'
         ≡ depositText s
-    unfolding depositText
+    unfolding depositTextWith
     sheet-text =
         let selectors-read : selectors' ≡ padded (selectorsLength sheetRows) (onSelectors s (sheetN s) (sheetL s)) (selectorsLength (sheetN s)) = R .selectors-laid ∙ rw accepted in
         let labels-read : labels' ≡ padded (labelsLength sheetRows) (onLabels s (sheetN s) (sheetL s)) (labelsLength (sheetN s)) = R .labels-laid ∙ rw accepted in
@@ -160,7 +160,7 @@ module _ (s selectors labels witness publics challenges : List ℕ) (r : SheetAn
         )
 
   pub unread-text : r .answer .number ≢ 0 → refusedText (r .answer .number) (r .answer .detail) ≡ depositText s
-  unfolding depositText
+  unfolding depositTextWith
   unread-text h =
       let no : isAccepted (newAnswer s) ≡ false = ap isAccepted (sym read-answer) ∙ ne-eqb (r .answer .number) 0 h in
       rw (no, read-answer)

@@ -49,7 +49,7 @@ use Rattle.witnesses.specs.Accepted.{Accepted, accepted-of}
 use Rattle.prover.specs.Promises.{provedFrom, Proves}
 use Rattle.text.specs.Text.{refusedText}
 use Rattle.sheet.specs.Sheet.{challengeCount}
-use Rattle.archive.specs.Printed.{judgedText, verdictText, transcriptText, textLength, workAnswer, workTranscript, workText}
+use Rattle.archive.specs.Printed.{judgedText, verdictText, transcriptText, textLength, workAnswerWith, workAnswer, workTranscript, workTextWith, workText}
 use Rattle.archive.specs.Lines.{Laid}
 
 pub record Lays (p n l : ℕ) (selectors labels witness publics challenges transcript : List ℕ) (r : Answer) (transcript' : List ℕ) : Type 0 where
@@ -93,7 +93,7 @@ pub work-reasons : (p n l : ℕ) (selectors labels witness publics transcript ch
     → length transcript ≡ transcriptLength n → length scratch ≡ scratchLength n
     → answerOf (proveReasons p n l selectors labels witness publics transcript (take 3 challenges) scratch)
     ≡ workAnswer p n l selectors labels witness publics challenges
-unfolding workAnswer
+unfolding workAnswerWith
 work-reasons p n l selectors labels witness publics transcript challenges scratch e f =
     rw (e, f, length-replicate {A = ℕ} (transcriptLength n) 0, length-replicate {A = ℕ} (scratchLength n) 0)
 
@@ -114,7 +114,7 @@ module _ (p n l : ℕ) (selectors labels witness publics challenges : List ℕ) 
 
   accepted : workAnswer p n l selectors labels witness publics challenges .number ≡ 0
       → Accepted p n l selectors labels witness publics (replicate (transcriptLength n) 0) (take 3 challenges) (replicate (scratchLength n) 0)
-  unfolding workAnswer
+  unfolding workAnswerWith
   accepted e = accepted-of p n l selectors labels witness publics _ (take 3 challenges) _ e
 
   -- the challenges of the prover are the first three
@@ -162,20 +162,20 @@ module _ (p n l : ℕ) (selectors labels witness publics challenges : List ℕ) 
         }
 
     pub proved-text : checkedText p n selectors labels publics T challenges ≡ workText p n l selectors labels witness publics challenges
-    unfolding workText
+    unfolding workTextWith
     proved-text =
         let verdict : PointVerdict =
         pointVerdict p n (prepared p n (lentConstraints n selectors labels)) (lentPublic publics) T (getD challenges 0 0) (getD challenges 1 0) (getD challenges 2 0) (getD challenges 3 0) in
-        rw (eq-eqb (workAnswer p n l selectors labels witness publics challenges .number) 0 e, workText, first-three T laid)
+        rw (eq-eqb (workAnswer p n l selectors labels witness publics challenges .number) 0 e, workTextWith, first-three T laid)
         (ap (λ (u : List ℕ). transcriptText n T ++ u) (judged-verdict verdict))
 
   pub refused-text : (r : Answer) → r ≡ workAnswer p n l selectors labels witness publics challenges → r .number ≢ 0
       → refusedText (r .number) (r .detail) ≡ workText p n l selectors labels witness publics challenges
-  unfolding workText
+  unfolding workTextWith
   refused-text r e h =
       let no : isAccepted (workAnswer p n l selectors labels witness publics challenges) ≡ false =
       ap isAccepted (sym e) ∙ ne-eqb (r .number) 0 h in
-      rw (no, workText, e)
+      rw (no, workTextWith, e)
 
 pub prepared-of : {p n l : ℕ} (selectors labels written scratch : List ℕ) (r : Answer) (written' scratch' : List ℕ)
     → Admissible p n → RightCircuit p n l selectors labels → length written ≡ preparedLength n → length scratch ≡ scratchLength n
