@@ -2,8 +2,8 @@
 --
 -- THE JOINED SHEET
 -- Numbers               the numbers of a sheet: p, n and l, and the five buffers as they are lent
--- onSheet s             those that stand on the sheet s
--- textOf N              the sheet that is written from them
+-- onSheetWith L s       those that stand on the sheet s, the witness being lent by the layout L
+-- textOfWith L N        the sheet that is written from them
 -- constraintsOf N, publicOf N, witnessOf N   their constraints, public inputs and wire values
 -- Satisfied N           the wire values satisfy the constraints with the public inputs
 -- sourceRow n l m i     which row stands at row i of the joined sheet, of two sheets of n rows with l and m public inputs: row r of the first (inl r), or
@@ -11,16 +11,18 @@
 -- fromRow f g s         f of a row of the first, g of a row of the second
 -- fromSecond n l m k    position k of the joined sheet comes from the second
 -- joinedAt n l m f g k  the number at position k of the joined sheet, f and g giving those at the positions of the first and of the second
--- joinedNumbers A B     the numbers of the joined sheet: the labels of the second are raised by 3n, the challenges are those of the first
--- joinedText one two    the joined sheet
+-- joinedNumbersWith L A B     the numbers of the joined sheet: the labels of the second are raised by 3n, the challenges are those of the first
+-- joinedTextWith L one two    the joined sheet
 -- joinedLength          the length of the buffer that it is written into
 -- REASONS
 -- joinDue               the lengths due of the two sheets, which have whatever lengths they have, and of the written buffer
 -- otherShape            15: the prime or n differ
 -- pairReasons           15, and 3 where the doubled n is too great
--- joinReasons           of `join`: those of the first sheet as a new one, with 6 for the written buffer among them; those of the second; those of the pair
+-- joinReasonsWith L     of `join`: those of the first sheet as a new one, with 6 for the written buffer among them; those of the second; those of the pair
 -- THE PROMISE
--- Joins                 refused: the buffer as it came; accepted: the joined sheet, and zeros behind it
+-- JoinsWith L           refused: the buffer as it came; accepted: the joined sheet, and zeros behind it
+-- BY THE LAYOUT OF TODAY
+-- onSheet, textOf, joinedNumbers, joinedText, joinReasons, Joins   the same, row by row
 --
 -- Assumes nothing.
 use mathlib.Core.Path.{_≡_}
@@ -32,10 +34,10 @@ use lib.Dec.{eqb, ltb}
 use lib.ListN.{length, getD, replicate}
 use Rattle.algebra.specs.Lists.{tab}
 use Rattle.field.specs.Reasons.{Reason, answerOf, isAccepted, badRows, badLengths}
-use Rattle.circuit.specs.Circuit.{Constraints, position, lentConstraints, lentWitness, laidWitness, lentPublic, Satisfies}
+use Rattle.circuit.specs.Circuit.{Constraints, Layout, position, lentConstraints, lentBy, laidBy, byRows, lentWitness, lentPublic, Satisfies}
 use Rattle.circuit.specs.Buffers.{selectorsLength, labelsLength, witnessLength}
-use Rattle.sheet.specs.Sheet.{sheetRows, challengeCount, sheetP, sheetN, sheetL, onSelectors, onLabels, onWitness, onPublics, onChallenges, newReasons}
-use Rattle.sheet.specs.Written.{sheetText}
+use Rattle.sheet.specs.Sheet.{sheetRows, challengeCount, sheetP, sheetN, sheetL, onSelectors, onLabels, onWitnessWith, onPublics, onChallenges, newReasonsWith}
+use Rattle.sheet.specs.Written.{sheetTextWith}
 use Rattle.joining.specs.declared.Joined.{Joined}
 
 -- THE JOINED SHEET
@@ -50,21 +52,21 @@ pub record Numbers : Type 0 where
   pub publics : List ℕ
   pub challenges : List ℕ
 
-abbrev pub onSheet : List ℕ → Numbers
-onSheet s =
+abbrev pub onSheetWith : Layout → List ℕ → Numbers
+onSheetWith L s =
     record {
       p = sheetP s;
       n = sheetN s;
       l = sheetL s;
       selectors = tab (onSelectors s (sheetN s) (sheetL s)) (selectorsLength (sheetN s));
       labels = tab (onLabels s (sheetN s) (sheetL s)) (labelsLength (sheetN s));
-      witness = tab (onWitness s (sheetN s) (sheetL s)) (witnessLength (sheetN s));
+      witness = tab (onWitnessWith L s (sheetN s) (sheetL s)) (witnessLength (sheetN s));
       publics = tab (onPublics s (sheetN s) (sheetL s)) (sheetL s);
       challenges = tab (onChallenges s (sheetN s) (sheetL s)) challengeCount;
     }
 
-abbrev pub textOf : Numbers → List ℕ
-textOf N = sheetText (N .p) (N .n) (N .l) (N .selectors) (N .labels) (N .witness) (N .publics) (N .challenges)
+abbrev pub textOfWith : Layout → Numbers → List ℕ
+textOfWith L N = sheetTextWith L (N .p) (N .n) (N .l) (N .selectors) (N .labels) (N .witness) (N .publics) (N .challenges)
 
 abbrev pub constraintsOf : Numbers → Constraints
 constraintsOf N = lentConstraints (N .n) (N .selectors) (N .labels)
@@ -96,8 +98,8 @@ joinedAt n l m f g k =
     let c : ℕ = k / (2 * n) in
     fromRow (λ r. f (position n c r)) (λ r. g (position n c r)) (sourceRow n l m (k % (2 * n)))
 
-abbrev pub joinedNumbers : Numbers → Numbers → Numbers
-joinedNumbers A B =
+abbrev pub joinedNumbersWith : Layout → Numbers → Numbers → Numbers
+joinedNumbersWith L A B =
     let n : ℕ = A .n in
     let at : (f g : ℕ → ℕ) → ℕ → ℕ = joinedAt n (A .l) (B .l) in
     record {
@@ -106,13 +108,13 @@ joinedNumbers A B =
       l = A .l + B .l;
       selectors = tab (at (λ k. getD (A .selectors) k 0) (λ k. getD (B .selectors) k 0)) (selectorsLength (2 * n));
       labels = tab (at (λ k. getD (A .labels) k 0) (λ k. 3 * n + getD (B .labels) k 0)) (labelsLength (2 * n));
-      witness = laidWitness (2 * n) (at (lentWitness n (A .witness)) (lentWitness n (B .witness)));
+      witness = laidBy L (2 * n) (at (lentBy L n (A .witness)) (lentBy L n (B .witness)));
       publics = A .publics ++ B .publics;
       challenges = A .challenges;
     }
 
-abbrev pub joinedText : List ℕ → List ℕ → List ℕ
-joinedText one two = textOf (joinedNumbers (onSheet one) (onSheet two))
+abbrev pub joinedTextWith : Layout → List ℕ → List ℕ → List ℕ
+joinedTextWith L one two = textOfWith L (joinedNumbersWith L (onSheetWith L one) (onSheetWith L two))
 
 abbrev pub joinedLength : ℕ
 joinedLength = 65536
@@ -129,14 +131,34 @@ abbrev pub pairReasons : (p n p' n' : ℕ) → List Reason
 pairReasons p n p' n' = otherShape p n p' n' ∷ badRows p (2 * n) sheetRows ∷ []
 
 -- `joined` is the length of the written buffer
-abbrev pub joinReasons : (one two : List ℕ) (joined : ℕ) → List Reason
-joinReasons one two joined =
-    newReasons one (badLengths (length one ∷ length two ∷ joined ∷ []) (joinDue (length one) (length two)) ∷ [])
-    ++ (newReasons two [] ++ pairReasons (sheetP one) (sheetN one) (sheetP two) (sheetN two))
+abbrev pub joinReasonsWith : (L : Layout) (one two : List ℕ) (joined : ℕ) → List Reason
+joinReasonsWith L one two joined =
+    newReasonsWith L one (badLengths (length one ∷ length two ∷ joined ∷ []) (joinDue (length one) (length two)) ∷ [])
+    ++ (newReasonsWith L two [] ++ pairReasons (sheetP one) (sheetN one) (sheetP two) (sheetN two))
 
 -- THE PROMISE
 
-pub record Joins (one two joined : List ℕ) (r : Joined) (joined' : List ℕ) : Type 0 where
-  pub answer : r .answer ≡ answerOf (joinReasons one two (length joined))
-  pub long : r .length ≡ cond (isAccepted (r .answer)) (length (joinedText one two)) 0
-  pub written : joined' ≡ cond (isAccepted (r .answer)) (joinedText one two ++ replicate (joinedLength - length (joinedText one two)) 0) joined
+pub record JoinsWith (L : Layout) (one two joined : List ℕ) (r : Joined) (joined' : List ℕ) : Type 0 where
+  pub answer : r .answer ≡ answerOf (joinReasonsWith L one two (length joined))
+  pub long : r .length ≡ cond (isAccepted (r .answer)) (length (joinedTextWith L one two)) 0
+  pub written : joined' ≡ cond (isAccepted (r .answer)) (joinedTextWith L one two ++ replicate (joinedLength - length (joinedTextWith L one two)) 0) joined
+
+-- BY THE LAYOUT OF TODAY
+
+abbrev pub onSheet : List ℕ → Numbers
+onSheet = onSheetWith byRows
+
+abbrev pub textOf : Numbers → List ℕ
+textOf = textOfWith byRows
+
+abbrev pub joinedNumbers : Numbers → Numbers → Numbers
+joinedNumbers = joinedNumbersWith byRows
+
+abbrev pub joinedText : List ℕ → List ℕ → List ℕ
+joinedText = joinedTextWith byRows
+
+abbrev pub joinReasons : (one two : List ℕ) (joined : ℕ) → List Reason
+joinReasons = joinReasonsWith byRows
+
+abbrev pub Joins : (one two joined : List ℕ) (r : Joined) (joined' : List ℕ) → Type 0
+Joins = JoinsWith byRows
