@@ -1,6 +1,7 @@
 -- An answer as it was before, but for the detail of 7 (AsBefore).
 --
 -- accepted-same        either both are accepted, or none
+-- as-then              of three answers, where the first is as the second, and the second as the third
 -- as-behind            of two lists that begin with the same reasons
 -- as-elements          of two lists that go on with 7, for elements of which one list has one that is p or more exactly where the other has, and then are the same
 -- as-transferred       for elements among which a witness stands as it was lent before, and as it is lent now
@@ -24,6 +25,9 @@ use Rattle.transfer.specs.ThereAndBack.{rows-below, columns-below}
 
 pub accepted-same : {a b : Answer} → AsBefore a b → isAccepted a ≡ isAccepted b
 accepted-same s = ap (λ (k : ℕ). eqb k 0) (s .number)
+
+pub as-then : {a b c : Answer} → AsBefore a b → AsBefore b c → AsBefore a c
+as-then s t = record { number = s .number ∙ t .number; detail = λ h. s .detail h ∙ t .detail (λ e. h (s .number ∙ e)) }
 
 -- whichever of two answers is given
 either : (c : Bool) (a a' b b' : Answer) → AsBefore a b → AsBefore a' b' → AsBefore (cond c a a') (cond c b b')

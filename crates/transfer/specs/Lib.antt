@@ -4,4 +4,6 @@ pub mod Columns
 pub mod Worked
 pub mod ThereAndBack
 pub mod AsBefore
+pub mod Reasons
+pub mod Texts
 pub mod Theorem

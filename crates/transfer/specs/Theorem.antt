@@ -5,31 +5,35 @@
 -- RowsAsBefore r' r                   `check_rows`: the verdict
 -- ProofAsBefore r' t' s' r t s        `prove`: every word of the transcript and of the scratch
 -- CountAsBefore r' r                  `lost_gammas`: the count
--- ReadAsBefore r' .. r ..             `read`, on one sheet: p, n, l and every word of the buffers, but for the witness, which is the one that it was, transferred
+-- A call that reads sheets is given the same ones
+-- ReadAsBefore r' .. r ..             `read`: p, n, l and every word of the buffers, but for the witness, which is the one that it was, transferred
+-- DepositAsBefore r' text' r text     `deposit`: the answer with its detail; and every byte, unless both texts are the line of a refusal with 7, in which the detail is
+--                                     printed
+-- JoinAsBefore r' joined' r joined    `join`: the length, and every byte
 -- THE THEOREM
--- rows-as-before, proof-as-before, count-as-before, read-as-before   for each call, whatever it is lent besides
+-- rows-as-before, proof-as-before, count-as-before, read-as-before, deposit-as-before, join-as-before   for each call, whatever it is lent besides
 --
 -- A call's answer is any that keeps the call's promise: the former one of Columns, and that of today.
 -- Assumes nothing.
 use mathlib.Core.Path.{_≡_, refl, sym, ap, ap₂, _∙_}
+use mathlib.Core.Logic.{_⊎_, inl, inr}
 use mathlib.Core.Bool.{Bool, true, false, cond}
 use mathlib.Core.List.{List, [], _∷_, _++_}
 use mathlib.Core.Option.{some}
-use Prim.Native.Nat.{ℕ, _*_, _-_}
+use Prim.Native.Nat.{ℕ, _-_, _≤_}
+use native.Mathlib.Omega.{arith}
 use lib.ListN.{length, getD, take, drop, replicate}
 use lib.Seq.{take-at, drop-at}
+use borrow.Author.Tests.{eqb-true}
 use Rattle.algebra.specs.Lists.{tab}
-use Rattle.algebra.specs.Tables.{length-tab, getD-tab}
+use Rattle.algebra.specs.Tables.{length-tab}
 use Rattle.field.specs.declared.Answer.{Answer}
-use Rattle.field.specs.Fields.{greatestRows}
-use Rattle.field.specs.Reasons.{Reason, answerOf, isAccepted, badField, retiredField, badRows, badPublics, badLengths, badElement, lentReasons}
+use Rattle.field.specs.Reasons.{Reason, isAccepted, badLengths, lentReasons, currentOnly}
 use Rattle.transform.specs.Transform.{scratchLength}
-use Rattle.circuit.specs.Circuit.{Constraints, lentConstraints, lentPublic, laidBy, byRows, lentWitness}
-use Rattle.circuit.specs.Buffers.{selectorsLength, labelsLength, witnessLength}
-use Rattle.circuit.specs.Reasons.{circuitReasons, rowsDue, proveDue}
-use Rattle.circuit.specs.Witness.{laid-ext}
-use Rattle.protocol.specs.Protocol.{witnessReasons, proveReasons}
-use Rattle.protocol.specs.SameValues.{verdict-ext, reasons-ext, proved-ext, lost-ext}
+use Rattle.circuit.specs.Circuit.{Constraints, lentConstraints, lentPublic, lentBy, laidBy, lentWitness}
+use Rattle.circuit.specs.Buffers.{witnessLength}
+use Rattle.circuit.specs.Reasons.{circuitReasons, rowsDue}
+use Rattle.protocol.specs.SameValues.{verdict-ext, proved-ext, lost-ext}
 use Rattle.rowcheck.specs.declared.RowAnswer.{RowAnswer}
 use Rattle.rowcheck.specs.declared.Verdict.the-variants.{None}
 use Rattle.rowcheck.specs.Promises.{verdictOf, lentZ, ChecksRows}
@@ -37,12 +41,19 @@ use Rattle.prover.specs.Promises.{Proves}
 use Rattle.losses.specs.declared.Counted.{Counted}
 use Rattle.losses.specs.Losses.{lostDue, LosesGammas}
 use Rattle.sheet.specs.declared.SheetAnswer.{SheetAnswer}
-use Rattle.sheet.specs.Sheet.{sheetRows, challengeCount, sheetP, sheetN, sheetL, onSelectors, onLabels, onWitness, onPublics, onChallenges, padded, firstReasons, lineReasons, sheetLengths}
+use Rattle.sheet.specs.Sheet.{sheetRows, challengeCount, sheetP, sheetN, sheetL, onWitnessWith, onWitness, padded, firstReasons, lineReasons, sheetLengths, newReasonsWith, newReasons}
 use Rattle.sheet.specs.Promises.{Reads}
+use Rattle.joining.specs.declared.Joined.{Joined}
+use Rattle.joining.specs.Joining.{joinedTextWith, joinedText, joinedLength, joinDue, pairReasons, Joins}
+use Rattle.joining.specs.Deciding.{joinable-of}
+use Rattle.archive.specs.declared.Deposited.{Deposited}
+use Rattle.archive.specs.Printed.{textLength}
+use Rattle.archive.specs.Deposit.{depositTextWith, depositText, Deposits}
 use Rattle.transfer.specs.Transfer.{toRows}
-use Rattle.transfer.specs.Columns.{columnWitness, ChecksRowsByColumns, ProvesByColumns, LosesGammasByColumns, onColumns, columnsRead, ReadsByColumns, AsBefore}
-use Rattle.transfer.specs.ThereAndBack.{rows-read, rows-long}
-use Rattle.transfer.specs.AsBefore.{accepted-same, as-transferred}
+use Rattle.transfer.specs.Columns.{byColumns, ChecksRowsByColumns, ProvesByColumns, LosesGammasByColumns, columnsRead, ReadsByColumns, DepositsByColumns, JoinsByColumns, AsBefore, RefusesElement}
+use Rattle.transfer.specs.AsBefore.{accepted-same, as-then, as-transferred}
+use Rattle.transfer.specs.Reasons.{same-values, same-long, prove-as-before, read-transferred, numbers-as-before}
+use Rattle.transfer.specs.Texts.{TextAsBefore, text-as-before, joined-as-before}
 
 -- THE STATEMENTS
 
@@ -72,15 +83,21 @@ pub record ReadAsBefore (r' : SheetAnswer) (selectors' labels' witness' publics'
   pub publics-laid : publics' ≡ publics
   pub challenges-laid : challenges' ≡ challenges
 
+-- the text is the first bytes of the buffer, as many as the answer says
+pub record DepositAsBefore (r' : Deposited) (text' : List ℕ) (r : Deposited) (text : List ℕ) : Type 0 where
+  pub answer : r' .answer ≡ r .answer
+  pub printed : ((r' .length ≡ r .length) × (text' ≡ text)) ⊎ (RefusesElement (take (r' .length) text') × RefusesElement (take (r .length) text))
+
+pub record JoinAsBefore (r' : Joined) (joined' : List ℕ) (r : Joined) (joined : List ℕ) : Type 0 where
+  pub answer : AsBefore (r' .answer) (r .answer)
+  pub long : r' .length ≡ r .length
+  pub written : joined' ≡ joined
+
 -- CALLS THAT ARE LENT A WITNESS
 
 module _ (p n : ℕ) (columns : List ℕ) (long : length columns ≡ witnessLength n) where
   abbrev rows : List ℕ
   rows = toRows n columns
-
-  -- the lengths do not tell the layouts apart
-  same-long : length (toRows n columns) ≡ length columns
-  same-long = rows-long n columns ∙ sym long
 
   module _ (l : ℕ) (selectors labels publics challenges : List ℕ) where
     abbrev C : Constraints
@@ -101,13 +118,13 @@ module _ (p n : ℕ) (columns : List ℕ) (long : length columns ≡ witnessLeng
           verdict =
               new .verdict
               ∙ ap₂ (λ b v. cond b (verdictOf v) None) (accepted-same answers)
-              (verdict-ext p n (lentWitness n rows) (columnWitness n columns) (rows-read n columns) C (lentPublic publics) beta gamma (lentZ z) (lentZ z) (λ i h. refl))
+              (verdict-ext p n (lentWitness n rows) (lentBy byColumns n columns) (same-values n columns) C (lentPublic publics) beta gamma (lentZ z) (lentZ z) (λ i h. refl))
               ∙ sym (old .verdict);
         }
       where
         answers : AsBefore (r' .answer) (r .answer)
         answers =
-            rw (new .answer, old .answer, same-long)
+            rw (new .answer, old .answer, same-long p n columns long)
             (as-transferred p n columns long selectors (publics ++ (z ++ challenges))
             (lentReasons p n l (length selectors ∷ length labels ∷ length columns ∷ length publics ∷ length z ∷ length challenges ∷ []) (rowsDue n l))
             (circuitReasons n l selectors labels))
@@ -123,31 +140,14 @@ module _ (p n : ℕ) (columns : List ℕ) (long : length columns ≡ witnessLeng
           cleared = new .cleared ∙ ap (λ b. cond b (replicate (scratchLength n) 0) scratch) (accepted-same answers) ∙ sym (old .cleared);
         }
       where
-        -- the reasons before those of the elements, `m` being the length of the witness; and all of them, `looked` being those that look at it
-        before : ℕ → List Reason
-        before m =
-            badField p ∷ retiredField p ∷ badRows p n (greatestRows p) ∷ badPublics n l
-            ∷ badLengths (length selectors ∷ length labels ∷ m ∷ length publics ∷ length transcript ∷ length challenges ∷ length scratch ∷ []) (proveDue n l) ∷ []
-
-        all : ℕ → List Reason → List Reason
-        all m looked = before m ++ (badElement p (selectors ++ (toRows n columns ++ (publics ++ challenges))) ∷ (circuitReasons n l selectors labels ++ looked))
-
-        same-reasons : proveReasons p n l selectors labels (toRows n columns) publics transcript challenges scratch
-            ≡ all (length columns) (witnessReasons p n (lentConstraints n selectors labels) (lentPublic publics) (columnWitness n columns) beta gamma)
-        same-reasons =
-            ap₂ all same-long (reasons-ext p n (lentWitness n rows) (columnWitness n columns) (rows-read n columns) C (lentPublic publics) beta gamma)
-
         answers : AsBefore r' r
-        answers =
-            rw (new .answer ∙ ap answerOf same-reasons, old .answer)
-            (as-transferred p n columns long selectors (publics ++ challenges) (before (length columns))
-            (circuitReasons n l selectors labels ++ witnessReasons p n C (lentPublic publics) (columnWitness n columns) beta gamma))
+        answers = rw (new .answer, old .answer) (prove-as-before p n columns long l selectors labels publics transcript challenges scratch)
 
         laid : some transcript' ≡ some transcript''
         laid =
             new .lays
             ∙ ap₂ (λ b o. cond b o (some transcript)) (accepted-same answers)
-            (proved-ext p n (lentWitness n rows) (columnWitness n columns) (rows-read n columns) C (lentPublic publics) beta gamma (getD challenges 2 0))
+            (proved-ext p n (lentWitness n rows) (lentBy byColumns n columns) (same-values n columns) C (lentPublic publics) beta gamma (getD challenges 2 0))
             ∙ sym (old .lays)
 
   pub count-as-before : (challenges : List ℕ) (r' r : Counted) → LosesGammas p n (toRows n columns) challenges r' → LosesGammasByColumns p n columns challenges r
@@ -158,21 +158,16 @@ module _ (p n : ℕ) (columns : List ℕ) (long : length columns ≡ witnessLeng
         count =
             new .count
             ∙ ap₂ (λ b k. cond b k 0) (accepted-same answers)
-            (lost-ext p n (lentWitness n rows) (columnWitness n columns) (rows-read n columns) (getD challenges 0 0))
+            (lost-ext p n (lentWitness n rows) (lentBy byColumns n columns) (same-values n columns) (getD challenges 0 0))
             ∙ sym (old .count);
       }
     where
       answers : AsBefore (r' .answer) (r .answer)
       answers =
-          rw (new .answer, old .answer, same-long)
+          rw (new .answer, old .answer, same-long p n columns long)
           (as-transferred p n columns long [] challenges (lentReasons p n 0 (length columns ∷ length challenges ∷ []) (lostDue n)) [])
 
 -- READING
-
--- what is laid now is what was laid, transferred
-read-transferred : (s : List ℕ) (n l : ℕ) → tab (onWitness s n l) (witnessLength n) ≡ toRows n (columnsRead s n l)
-unfolding laidBy byRows
-read-transferred s n l = laid-ext n (onColumns s n l) _ (λ k h. sym (getD-tab (onColumns s n l) (3 * n) k h))
 
 module _ (s selectors labels witness publics challenges : List ℕ) where
   abbrev n : ℕ
@@ -183,14 +178,14 @@ module _ (s selectors labels witness publics challenges : List ℕ) where
 
   -- what the former promise lays, taken apart and transferred
   laid-now : (b : Bool) (m : ℕ) (witness' : List ℕ) → m ≡ cond b (sheetN s) 0
-      → witness' ≡ cond b (padded (witnessLength sheetRows) (onColumns s (sheetN s) (sheetL s)) (witnessLength (sheetN s))) witness
+      → witness' ≡ cond b (padded (witnessLength sheetRows) (onWitnessWith byColumns s (sheetN s) (sheetL s)) (witnessLength (sheetN s))) witness
       → cond b (padded (witnessLength sheetRows) (onWitness s (sheetN s) (sheetL s)) (witnessLength (sheetN s))) witness
       ≡ toRows m (take (witnessLength m) witness') ++ drop (witnessLength m) witness'
-  unfolding laidBy byRows tab
+  unfolding laidBy tab
   laid-now true m witness' e f =
       let zeros : List ℕ = replicate (witnessLength sheetRows - witnessLength n) 0 in
-      let front : take (witnessLength n) (columnsRead s n l ++ zeros) ≡ columnsRead s n l = take-at (columnsRead s n l) zeros (witnessLength n) (length-tab (onColumns s n l) (witnessLength n)) in
-      let behind : drop (witnessLength n) (columnsRead s n l ++ zeros) ≡ zeros = drop-at (columnsRead s n l) zeros (witnessLength n) (length-tab (onColumns s n l) (witnessLength n)) in
+      let front : take (witnessLength n) (columnsRead s n l ++ zeros) ≡ columnsRead s n l = take-at (columnsRead s n l) zeros (witnessLength n) (length-tab (onWitnessWith byColumns s n l) (witnessLength n)) in
+      let behind : drop (witnessLength n) (columnsRead s n l ++ zeros) ≡ zeros = drop-at (columnsRead s n l) zeros (witnessLength n) (length-tab (onWitnessWith byColumns s n l) (witnessLength n)) in
       rw (e, f, front, behind, read-transferred s n l)
   laid-now false m witness' e f = rw (e, f)
 
@@ -211,15 +206,87 @@ module _ (s selectors labels witness publics challenges : List ℕ) where
         challenges-laid = new .challenges-laid ∙ rw same (sym (old .challenges-laid));
       }
     where
-      read : List ℕ
-      read = tab (onSelectors s n l) (selectorsLength n)
-
       answers : AsBefore (r' .answer) (r .answer)
       answers =
-          rw (new .answer, old .answer, read-transferred s n l)
-          (as-transferred (sheetP s) n (columnsRead s n l) (length-tab (onColumns s n l) (witnessLength n)) read (tab (onPublics s n l) l ++ tab (onChallenges s n l) challengeCount)
-          (firstReasons s ++ (lineReasons s n l ++ (sheetLengths s (length selectors) (length labels) (length witness) (length publics) (length challenges) ∷ [])))
-          (circuitReasons n l read (tab (onLabels s n l) (labelsLength n))))
+          rw (new .answer, old .answer)
+          (numbers-as-before s (sheetP s) n l
+          (firstReasons s ++ (lineReasons s n l ++ (sheetLengths s (length selectors) (length labels) (length witness) (length publics) (length challenges) ∷ []))) [])
 
       same : isAccepted (r' .answer) ≡ isAccepted (r .answer)
       same = accepted-same answers
+
+-- DEPOSITS
+
+-- a text that is printed into a buffer stands in front
+refuses : (text zeros : List ℕ) (k : ℕ) (buffer : List ℕ) → k ≡ length text → buffer ≡ text ++ zeros → RefusesElement text → RefusesElement (take k buffer)
+refuses text zeros k buffer e f R = record { detail = R .detail; is = rw (e, f, take-at text zeros (length text) refl) (R .is) }
+
+pub deposit-as-before : (s text : List ℕ) (r' : Deposited) (text' : List ℕ) (r : Deposited) (text'' : List ℕ)
+    → Deposits s text r' text' → DepositsByColumns s text r text'' → DepositAsBefore r' text' r text''
+deposit-as-before s text r' text' r text'' new old =
+    record {
+      answer = answers;
+      printed = go (isAccepted (r' .answer)) (text-as-before s) (new .long) (new .prints) (rw same (old .long)) (rw same (old .prints));
+    }
+  where
+    answers : r' .answer ≡ r .answer
+    answers = new .answer ∙ sym (old .answer)
+
+    same : isAccepted (r' .answer) ≡ isAccepted (r .answer)
+    same = ap isAccepted answers
+
+    go : (b : Bool) → TextAsBefore (depositText s) (depositTextWith byColumns s)
+        → r' .length ≡ cond b (length (depositText s)) 0 → text' ≡ cond b (depositText s ++ replicate (textLength - length (depositText s)) 0) text
+        → r .length ≡ cond b (length (depositTextWith byColumns s)) 0
+        → text'' ≡ cond b (depositTextWith byColumns s ++ replicate (textLength - length (depositTextWith byColumns s)) 0) text
+        → ((r' .length ≡ r .length) × (text' ≡ text'')) ⊎ (RefusesElement (take (r' .length) text') × RefusesElement (take (r .length) text''))
+    go true (inl t) e' f' e f = inl (e' ∙ rw t (sym e), f' ∙ rw t (sym f))
+    go true (inr t) e' f' e f = inr (refuses _ _ _ _ e' f' (t .0), refuses _ _ _ _ e f (t .1))
+    go false t e' f' e f = inl (e' ∙ sym e, f' ∙ sym f)
+
+-- JOINED SHEETS
+
+module _ (one two joined : List ℕ) (r' : Joined) (joined' : List ℕ) (r : Joined) (joined'' : List ℕ) (new : Joins one two joined r' joined')
+    (old : JoinsByColumns one two joined r joined'') where
+  -- 6, for the length of the written buffer
+  abbrev lengths : List Reason
+  lengths = badLengths (length one ∷ length two ∷ length joined ∷ []) (joinDue (length one) (length two)) ∷ []
+
+  abbrev ofPair : List Reason
+  ofPair = pairReasons (sheetP one) (sheetN one) (sheetP two) (sheetN two)
+
+  -- the first sheet's numbers by columns, and then the second's too
+  answers : AsBefore (r' .answer) (r .answer)
+  answers =
+      rw (new .answer, old .answer)
+      (as-then
+      (numbers-as-before one (sheetP one) (sheetN one) (sheetL one)
+      (currentOnly (sheetP one) (firstReasons one ++ (lineReasons one (sheetN one) (sheetL one) ++ lengths)))
+      (newReasons two [] ++ ofPair))
+      (numbers-as-before two (sheetP two) (sheetN two) (sheetL two)
+      (newReasonsWith byColumns one lengths ++ currentOnly (sheetP two) (firstReasons two ++ lineReasons two (sheetN two) (sheetL two)))
+      ofPair))
+
+  texts : isAccepted (r' .answer) ≡ true → joinedText one two ≡ joinedTextWith byColumns one two
+  texts e =
+      let joinable = joinable-of one two (length joined) (ap (λ (a : Answer). a .number) (sym (new .answer)) ∙ eqb-true (r' .answer .number) 0 e) in
+      let few : sheetL two ≤ sheetN one = omega (arith, joinable .two .circuit-right .circuit .publics-few, joinable .same-n) in
+      joined-as-before one two (joinable .same-n) (joinable .one .circuit-right .circuit .publics-few) few
+
+  -- what is made of the joined sheet where it is written, and of nothing where it is not
+  written : {A : Type 0} (f : List ℕ → A) (other : A)
+      → cond (isAccepted (r' .answer)) (f (joinedText one two)) other ≡ cond (isAccepted (r .answer)) (f (joinedTextWith byColumns one two)) other
+  written {A} f other =
+      go (isAccepted (r' .answer)) refl ∙ ap (λ (b : Bool). cond b (f (joinedTextWith byColumns one two)) other) (accepted-same answers)
+    where
+      go : (b : Bool) → isAccepted (r' .answer) ≡ b → cond b (f (joinedText one two)) other ≡ cond b (f (joinedTextWith byColumns one two)) other
+      go true e = ap f (texts e)
+      go false e = refl
+
+  pub join-as-before : JoinAsBefore r' joined' r joined''
+  join-as-before =
+      record {
+        answer = answers;
+        long = new .long ∙ written length 0 ∙ sym (old .long);
+        written = new .written ∙ written (λ text. text ++ replicate (joinedLength - length text) 0) joined ∙ sym (old .written);
+      }

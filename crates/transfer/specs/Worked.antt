@@ -21,7 +21,7 @@ use Rattle.text.specs.Text.{isDigit, digitsEnd, valueOf, numberAt, fieldAt}
 use Rattle.sheet.specs.Sheet.{fieldsDue, lineAt, numberOf}
 use Rattle.sheet.specs.Worked.{bytes}
 use Rattle.transfer.specs.Transfer.{toRows, toColumns, transferReasons}
-use Rattle.transfer.specs.Columns.{columnWitness, columnsRead}
+use Rattle.transfer.specs.Columns.{byColumns, columnsRead}
 
 abbrev columns : List ℕ
 columns = 2 ∷ 6 ∷ 3 ∷ 6 ∷ 6 ∷ 12 ∷ []
@@ -43,7 +43,7 @@ pub record Worked : Type 0 where
   pub four-columns : toColumns 4 twelve ≡ 0 ∷ 3 ∷ 6 ∷ 9 ∷ 1 ∷ 4 ∷ 7 ∷ 10 ∷ 2 ∷ 5 ∷ 8 ∷ 11 ∷ []
   -- what reading the sheet laid before, and what was read in it
   pub read-before : columnsRead bytes 2 0 ≡ columns
-  pub held-before : tab (columnWitness 2 columns) 6 ≡ columns
+  pub held-before : tab (lentBy byColumns 2 columns) 6 ≡ columns
   -- b of row 0 is 17: 7 counted it third, and counts it second
   pub seven-before : answerOf (lostReasons 17 2 highB (1 ∷ [])) ≡ record { number = 7; detail = 2 }
   pub seven-now : answerOf (lostReasons 17 2 (toRows 2 highB) (1 ∷ [])) ≡ record { number = 7; detail = 1 }
@@ -55,7 +55,7 @@ pub record Worked : Type 0 where
   pub written-short : answerOf (transferReasons 4 twelve rows) ≡ record { number = 6; detail = 2 }
 
 pub worked : Worked
-unfolding tab first ones isField isRows greatestRows anyRows firstOther firstAbove lentBy laidBy byRows isDigit digitsEnd valueOf numberAt fieldAt fieldsDue lineAt numberOf
+unfolding tab first ones isField isRows greatestRows anyRows firstOther firstAbove lentBy laidBy byRows byColumns isDigit digitsEnd valueOf numberAt fieldAt fieldsDue lineAt numberOf
 worked =
     record {
       to-rows = refl;
