@@ -273,7 +273,7 @@ module _ (one two joined : List ℕ) (r' : Joined) (joined' : List ℕ) (r : Joi
       let few : sheetL two ≤ sheetN one = omega (arith, joinable .two .circuit-right .circuit .publics-few, joinable .same-n) in
       joined-as-before one two (joinable .same-n) (joinable .one .circuit-right .circuit .publics-few) few
 
-  -- what is made of the joined sheet where it is written, and of nothing where it is not
+  -- whatever is made of the joined sheet, where it is written
   written : {A : Type 0} (f : List ℕ → A) (other : A)
       → cond (isAccepted (r' .answer)) (f (joinedText one two)) other ≡ cond (isAccepted (r .answer)) (f (joinedTextWith byColumns one two)) other
   written {A} f other =

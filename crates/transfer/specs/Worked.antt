@@ -12,14 +12,19 @@ use Prim.Native.Nat.{ℕ}
 use lib.Count.{ones}
 use Rattle.algebra.specs.Lists.{tab}
 use Rattle.algebra.specs.Modular.{first}
-use Rattle.field.specs.Fields.{isField, isRows, greatestRows}
+use Rattle.field.specs.Fields.{isField, isCurrent, isRows, greatestRows}
 use Rattle.field.specs.Reasons.{answerOf, firstOther, firstAbove}
+use Rattle.transform.specs.Parts.{laid}
 use Rattle.circuit.specs.Circuit.{lentBy, laidBy, byRows}
+use Rattle.circuit.specs.Reasons.{unboundRow}
 use Rattle.circuit.specs.Promises.{anyRows}
 use Rattle.losses.specs.Losses.{lostReasons}
-use Rattle.text.specs.Text.{isDigit, digitsEnd, valueOf, numberAt, fieldAt}
-use Rattle.sheet.specs.Sheet.{fieldsDue, lineAt, numberOf}
-use Rattle.sheet.specs.Worked.{bytes}
+use Rattle.text.specs.Text.{isDigit, digitsEnd, valueOf, isNumberAt, numberAt, fieldAt, isFieldAt, isLineAt, decimalOf, fieldsText, fieldsOf, refusedText}
+use Rattle.sheet.specs.Sheet.{fieldsDue, lineAt, numberOf, badLine}
+use Rattle.sheet.specs.Worked.{bytes, with}
+use Rattle.joining.specs.Joining.{sourceRow, joinedAt, joinedTextWith}
+use Rattle.joining.specs.Worked.{second, joinedBytes}
+use Rattle.archive.specs.Deposit.{depositTextWith, depositText}
 use Rattle.transfer.specs.Transfer.{toRows, toColumns, transferReasons}
 use Rattle.transfer.specs.Columns.{byColumns, columnsRead}
 
@@ -47,6 +52,10 @@ pub record Worked : Type 0 where
   -- b of row 0 is 17: 7 counted it third, and counts it second
   pub seven-before : answerOf (lostReasons 17 2 highB (1 ∷ [])) ≡ record { number = 7; detail = 2 }
   pub seven-now : answerOf (lostReasons 17 2 (toRows 2 highB) (1 ∷ [])) ≡ record { number = 7; detail = 1 }
+  -- so it is printed for a sheet, on which b of row 0 is 213, the ten selectors before it counting too; the sheets of joining's worked case join to what they join to
+  pub printed-before : depositTextWith byColumns (with 43 (50 ∷ 49 ∷ [])) ≡ refusedText 7 12
+  pub printed-now : depositText (with 43 (50 ∷ 49 ∷ [])) ≡ refusedText 7 11
+  pub joined-before : joinedTextWith byColumns bytes second ≡ joinedBytes
   pub taken : answerOf (transferReasons 2 columns rows) ≡ record { number = 0; detail = 0 }
   -- 3 rows, and 1; a buffer too long, and then one too short
   pub three-rows : answerOf (transferReasons 3 columns rows) ≡ record { number = 3; detail = 0 }
@@ -55,7 +64,7 @@ pub record Worked : Type 0 where
   pub written-short : answerOf (transferReasons 4 twelve rows) ≡ record { number = 6; detail = 2 }
 
 pub worked : Worked
-unfolding tab first ones isField isRows greatestRows anyRows firstOther firstAbove lentBy laidBy byRows byColumns isDigit digitsEnd valueOf numberAt fieldAt fieldsDue lineAt numberOf
+unfolding tab first ones isField isCurrent isRows greatestRows anyRows firstOther firstAbove unboundRow laid lentBy laidBy byRows byColumns isDigit digitsEnd valueOf isNumberAt numberAt fieldAt isFieldAt isLineAt decimalOf fieldsText fieldsOf fieldsDue lineAt numberOf badLine sourceRow joinedAt depositTextWith
 worked =
     record {
       to-rows = refl;
@@ -66,6 +75,9 @@ worked =
       held-before = refl;
       seven-before = refl;
       seven-now = refl;
+      printed-before = refl;
+      printed-now = refl;
+      joined-before = refl;
       taken = refl;
       three-rows = refl;
       one-row = refl;
