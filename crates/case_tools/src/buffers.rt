@@ -99,6 +99,13 @@ pub fn put(xs: &mut [u32], place: usize, x: u32) {
     }
 }
 
+// The word at a place raised by one modulo p, where the buffer has that place.
+pub fn raise(p: u32, xs: &mut [u32], place: usize) {
+    if place < xs.len() {
+        xs[place] = modulo(p, std::num::wrapping_add_u32(xs[place], 1));
+    }
+}
+
 // A number that depends on every word and on their order.
 pub fn digest(xs: &[u32]) -> u32 {
     let mut d: u32 = 0;

@@ -1,10 +1,9 @@
 // Lines of output: a label, then words and numbers with a comma before each.
 use field::Answer;
-use libc::STDOUT_FILENO;
 
 // Bytes as they are: a label at a line's start.
 pub fn text(bytes: &[u8]) {
-    io::write_all(STDOUT_FILENO, bytes);
+    streams::print(bytes);
 }
 
 pub fn word(bytes: &[u8]) {
@@ -22,8 +21,9 @@ pub fn either(test: bool, yes: &[u8], no: &[u8]) {
 }
 
 pub fn number(x: u32) {
-    text(b",");
-    io::print_decimal(STDOUT_FILENO, x as u64);
+    let mut digits = [0u8; 20];
+    let k = io::decimal(x as u64, &mut digits);
+    word(&digits[..k]);
 }
 
 pub fn numbers(xs: &[u32]) {

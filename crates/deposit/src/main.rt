@@ -1,12 +1,13 @@
 // The program `deposit`: reads a sheet from standard input, and prints the text of its deposit.
-use libc::STDIN_FILENO;
-use libc::STDOUT_FILENO;
+use streams::Got;
 
 fn main() {
     let mut sheet = sheet::sheet_room();
+    let Got::Bytes(n) = streams::read_input(&mut sheet) else {
+        return;
+    };
     let mut text = archive::text_room();
-    let n = io::read_full(STDIN_FILENO, &mut sheet);
     let made = archive::deposit(&sheet[..n], &mut text);
     let end = made.length;
-    io::write_all(STDOUT_FILENO, &text[..end]);
+    streams::print(&text[..end]);
 }

@@ -14,6 +14,7 @@ use case_tools::buffers;
 use case_tools::files;
 use case_tools::lines;
 use case_tools::print;
+use streams::Got;
 
 mod checks;
 
@@ -87,23 +88,43 @@ fn judge(sheet: &[u8], text: &[u8], filed: &[u32]) {
     );
 }
 
-// The deposit whose sheet argument i names, and whose text the next one does.
-fn judge_filed(i: usize, next: usize) {
-    let mut sheet = sheet::sheet_room();
-    let mut text = archive::text_room();
+// The lines of a deposit, behind the name of its sheet, which is argument i. False where that cannot be printed, which is told.
+fn print_judged(i: usize, sheet: &[u8], text: &[u8]) -> bool
+    requires { ⌜ length (now text) ≤ 65536 ⌝ }
+{
+    if !files::print_name(i) {
+        return false;
+    }
     let mut filed = buffers::short();
-    let n = files::load(i, &mut sheet);
-    let m = files::load(next, &mut text);
-    let k = transcript(&text[..m], &mut filed);
-    files::print_name(i);
-    judge(&sheet[..n], &text[..m], &filed[..k]);
+    let k = transcript(text, &mut filed);
+    judge(sheet, text, &filed[..k]);
+    true
+}
+
+// The deposit whose sheet argument i names, and whose text the next one does. False where one of them cannot be read or the name not printed: what
+// failed is told.
+fn judge_filed(i: usize, next: usize) -> bool {
+    let mut sheet = sheet::sheet_room();
+    let Got::Bytes(n) = streams::read_file(i, &mut sheet) else {
+        return false;
+    };
+    let mut text = archive::text_room();
+    let Got::Bytes(m) = streams::read_file(next, &mut text) else {
+        return false;
+    };
+    print_judged(i, &sheet[..n], &text[..m])
 }
 
 fn main() {
     let end = files::count();
+    if end < 3 || end % 2 == 0 {
+        streams::tell(
+            b"filed takes the names of two files for each deposit, its sheet and its text\n",
+        );
+        return;
+    }
     let mut i = 1;
-    while i < end {
-        judge_filed(i, i + 1);
+    while i < end && judge_filed(i, i + 1) {
         i += 2;
     }
 }

@@ -1,4 +1,4 @@
-// Larger sizes, on numbers that look random: every polynomial is opened, and what `open` wrote is checked, as it is and with one evaluation put to 0.
+// Larger sizes, on numbers that look random: every polynomial is opened, and what `open` wrote is checked, as it is and with one evaluation raised.
 ghost use Prim.Native.Nat.{_≤_};
 use super::calls;
 use case_tools::buffers;
@@ -27,9 +27,9 @@ fn checks<'a>(
         challenges,
         scratch,
     );
-    buffers::put(evaluations, 12, 0);
+    buffers::raise(p, evaluations, 12);
     calls::check(
-        b"last evaluation 0",
+        b"last evaluation raised",
         p,
         n,
         prepared,

@@ -151,7 +151,7 @@ fn fill_raised(p: u32, place: usize, xs: &[u32], out: &mut [u32]) {
     for i in 0..out.len() {
         out[i] = at(xs, i);
     }
-    buffers::put(out, place, mul_add(p, at(xs, place), 1, 1));
+    buffers::raise(p, out, place);
 }
 
 // A buffer with one word raised by one modulo p.

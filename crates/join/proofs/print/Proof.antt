@@ -29,11 +29,11 @@ join-requires c κs = search needs
 array-share-prefix-joined : tie.Need-array-share-prefix-joined
 array-share-prefix-joined c = fits (c .before .before .before)
 
-slice-aggregate-write-all : tie.Need-slice-aggregate-write-all
-slice-aggregate-write-all c = sym (length-take-le _ _ (fits (c .before .before .before .before)))
+slice-aggregate-print : tie.Need-slice-aggregate-print
+slice-aggregate-print c = sym (length-take-le _ _ (fits (c .before .before .before .before)))
 
-write-all-requires : tie.Need-write-all-requires
-write-all-requires c κs = search needs
+print-requires : tie.Need-print-requires
+print-requires c κs = search needs
 
 slice-aggregate-put-refused : tie.Need-slice-aggregate-put-refused
 slice-aggregate-put-refused c = search needs
@@ -44,11 +44,11 @@ put-refused-requires c κs = search needs
 array-share-prefix-line : tie.Need-array-share-prefix-line
 array-share-prefix-line c = line-fits (c .before)
 
-slice-aggregate-write-all-2 : tie.Need-slice-aggregate-write-all-2
-slice-aggregate-write-all-2 c = sym (length-take-le _ _ (line-fits (c .before .before)))
+slice-aggregate-print-2 : tie.Need-slice-aggregate-print-2
+slice-aggregate-print-2 c = sym (length-take-le _ _ (line-fits (c .before .before)))
 
-write-all-requires-2 : tie.Need-write-all-requires-2
-write-all-requires-2 c κs = search needs
+print-requires-2 : tie.Need-print-requires-2
+print-requires-2 c κs = search needs
 
 returns : tie.Need-returns
 returns c = search needs
@@ -64,12 +64,12 @@ print-spec =
     slice-aggregate-join
     join-requires
     array-share-prefix-joined
-    slice-aggregate-write-all
-    write-all-requires
+    slice-aggregate-print
+    print-requires
     slice-aggregate-put-refused
     put-refused-requires
     array-share-prefix-line
-    slice-aggregate-write-all-2
-    write-all-requires-2
+    slice-aggregate-print-2
+    print-requires-2
     returns
     returns-2)
