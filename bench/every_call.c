@@ -173,7 +173,9 @@ static void every_call(void)
     guppyspoon_inverse(P, 3, LENT(answer));
     EXPECT("inverse", GUPPYSPOON_INVERSE_WORDS, GUPPYSPOON_ACCEPTED, 0, 1, 6);
     guppyspoon_inverse(P, 0, LENT(answer));
-    EXPECT("no inverse of 0", GUPPYSPOON_INVERSE_WORDS, GUPPYSPOON_ACCEPTED, 0, 0, 0);
+    EXPECT("no inverse of 0", GUPPYSPOON_INVERSE_WORDS, GUPPYSPOON_ACCEPTED, 0, 0, GUPPYSPOON_NO_ELEMENT);
+    guppyspoon_inverse(P, GUPPYSPOON_NO_ELEMENT, LENT(answer));
+    EXPECT("no element", GUPPYSPOON_INVERSE_WORDS, GUPPYSPOON_BAD_ELEMENT, 0, 0, GUPPYSPOON_NO_ELEMENT);
     guppyspoon_interpolate(P, N, LENT(z), LENT(coefficients), LENT(scratch), LENT(answer));
     EXPECT("interpolate", GUPPYSPOON_INTERPOLATE_WORDS, GUPPYSPOON_ACCEPTED, 0);
     guppyspoon_evaluate(P, N, LENT(coefficients), LENT(values), LENT(scratch), LENT(answer));
@@ -232,7 +234,7 @@ static void every_reason(void)
     read(SHEET("17,2\n"));
     EXPECT("reason 1", GUPPYSPOON_READ_WORDS, GUPPYSPOON_BAD_START, 0, 0, 0, 0);
     guppyspoon_inverse(P + 1, 3, LENT(answer));
-    EXPECT("reason 2", GUPPYSPOON_INVERSE_WORDS, GUPPYSPOON_BAD_PRIME, 0, 0, 0);
+    EXPECT("reason 2", GUPPYSPOON_INVERSE_WORDS, GUPPYSPOON_BAD_PRIME, 0, 0, GUPPYSPOON_NO_ELEMENT);
     guppyspoon_permutation(P, N + 1, LENT(labels), LENT(positions), LENT(answer));
     EXPECT("reason 3", GUPPYSPOON_PERMUTATION_WORDS, GUPPYSPOON_BAD_ROWS, 0);
     read(SHEET("17,2,0\n0,0,16,1,0,0,1,2\n1,1,16\n"));

@@ -37,6 +37,9 @@ extern "C" {
 #define GUPPYSPOON_MOST_ROWS_2013265921 1024
 #define GUPPYSPOON_MOST_ROWS_SHEET 256
 
+/* A word that is no element of any field, and that no call takes as one: what stands in the place of an inverse that there is none of. */
+#define GUPPYSPOON_NO_ELEMENT UINT32_C(4294967295)
+
 /* The words of the buffers for n rows. */
 #define GUPPYSPOON_SELECTORS_LENGTH(n) (5 * (size_t)(n))      /* qL, qR, qO, qM, qC */
 #define GUPPYSPOON_LABELS_LENGTH(n) (3 * (size_t)(n))         /* of the columns a, b, c */
@@ -148,7 +151,8 @@ enum guppyspoon_point_verdict {
  *
  * Buffers: none.
  * Reasons: 2, 7 (x is place 0).
- * Answer: number, detail, 1 if there is an inverse and 0 if there is none (x is 0, or the call was refused), the inverse (0 if there is none).
+ * Answer: number, detail, 1 if there is an inverse and 0 if there is none (x is 0, or the call was refused), the inverse (GUPPYSPOON_NO_ELEMENT if
+ * there is none).
  */
 void guppyspoon_inverse(uint32_t p, uint32_t x, uint32_t *answer, size_t answer_length);
 

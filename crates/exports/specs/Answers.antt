@@ -2,8 +2,10 @@
 --
 -- over words buffer     the words over the start of a buffer, as many as it has room for; the rest of the buffer as it was
 -- answerWords r         number and detail
+-- noElement             a word that is no element of any field: the greatest
+-- no-element            it is not below p
 -- isThere i             1 where there is an inverse, 0 where there is none
--- inverseWord i         the inverse; 0 where there is none
+-- inverseWord i         the inverse; noElement where there is none
 -- invertedWords r       number, detail, whether there is an inverse, and the inverse
 -- identityWord id       the word of a failing identity: 2 gate, 3 start, 4 step
 -- verdictWord v         the word of a row verdict: 0 none, 1 pass, or that of the identity that fails
@@ -21,7 +23,11 @@
 -- Assumes nothing.
 use mathlib.Core.Path.{_≡_}
 use mathlib.Core.List.{List, [], _∷_}
-use Prim.Native.Nat.{ℕ}
+use mathlib.Core.Bool.{true}
+use Prim.Native.Nat.{ℕ, _≤_}
+use native.Mathlib.Omega.{arith}
+use Rattle.field.specs.Fields.{isField}
+use Rattle.field.specs.Primes.{by-field}
 use Rattle.field.specs.declared.Answer.{Answer}
 use Rattle.field.specs.declared.InverseOf.{InverseOf}
 use Rattle.field.specs.declared.InverseOf.the-variants as inverse
@@ -47,12 +53,18 @@ over (x ∷ words) (y ∷ buffer) = x ∷ over words buffer
 abbrev pub answerWords : Answer → List ℕ
 answerWords r = r .number ∷ r .detail ∷ []
 
+abbrev pub noElement : ℕ
+noElement = 4294967295
+
+pub no-element : (p : ℕ) → isField p ≡ true → p ≤ noElement
+no-element = by-field (λ p. p ≤ noElement) (omega arith) (omega arith) (omega arith)
+
 abbrev pub isThere : InverseOf → ℕ
 isThere inverse.None = 0
 isThere (inverse.Is y) = 1
 
 abbrev pub inverseWord : InverseOf → ℕ
-inverseWord inverse.None = 0
+inverseWord inverse.None = noElement
 inverseWord (inverse.Is y) = y
 
 abbrev pub invertedWords : Inverted → List ℕ

@@ -8,7 +8,7 @@
 // No slice may overlap one that is written. Nothing is returned. The answer's words are written to `answer`, the last slice of each call: number
 // and detail, and then
 //
-//   guppyspoon_inverse         1 or 0 (there is an inverse, or none); and the inverse, or 0
+//   guppyspoon_inverse         1 or 0 (there is an inverse, or none); and the inverse, or 4294967295, which is no element
 //   guppyspoon_check_rows      0 none, 1 pass, 2 gate, 3 start, 4 step; and the row that fails, or 0
 //   guppyspoon_check_point     0 none, 1 accept, 2 reject
 //   guppyspoon_check_opening   0 none, 1 accept, 2 reject

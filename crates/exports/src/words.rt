@@ -12,6 +12,9 @@ use rowcheck::RowAnswer;
 use rowcheck::Verdict;
 use sheet::SheetAnswer;
 
+// A word that is no element of any field: what stands where there is no inverse.
+const NO_ELEMENT: u32 = 4294967295;
+
 // x at a place of the buffer, where it has that place.
 fn put(buffer: &mut [u32], place: usize, x: u32)
     ensures { λ _. ⌜ now (buffer .exit) ≡ set (now (buffer .entry)) place x ⌝ }
@@ -39,12 +42,12 @@ fn is_there(i: InverseOf) -> u32
     }
 }
 
-// The inverse; 0 where there is none.
+// The inverse; NO_ELEMENT where there is none.
 fn inverse_word(i: InverseOf) -> u32
     ensures { λ r. ⌜ r ≡ inverseWord i ⌝ }
 {
     match i {
-        InverseOf::None => 0,
+        InverseOf::None => NO_ELEMENT,
         InverseOf::Is(y) => y,
     }
 }
