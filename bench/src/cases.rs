@@ -1,8 +1,8 @@
 // Cases: circuits that are filled rightly, and damage of every kind that documents 01 and 02 have a reason for.
 use crate::kinds::{plainly, Case, Kind, Role};
+use crate::lengths::{self, CHALLENGES, CHECK_ROWS_CHALLENGES, LOST_GAMMAS_CHALLENGES, POLYNOMIALS, PROVE_CHALLENGES, SELECTORS};
 use crate::numbers::*;
 use crate::opening_cases::{relist, Opening};
-use crate::openings::POLYNOMIALS;
 use crate::plain;
 use crate::polynomials::add_product;
 use crate::random::Random;
@@ -18,12 +18,12 @@ pub struct Circuit {
     pub labels: Vec<u32>,
     pub contents: Vec<u32>,
     pub publics: Vec<u32>,
-    pub challenges: [u32; 4],
+    pub challenges: [u32; CHALLENGES],
 }
 
 // Labels: any, few different ones, one only, all different in any order.
 fn labels(r: &mut Random, n: usize) -> Vec<u32> {
-    let k = 3 * n;
+    let k = lengths::positions(n);
     let few = 1 + r.below(4);
     match r.below(4) {
         0 => (0..k).map(|_| r.below(k) as u32).collect(),
@@ -44,7 +44,7 @@ impl Circuit {
     pub fn mend_gates(&mut self) {
         let (p, n, l) = (self.p, self.n as usize, self.l as usize);
         for i in 0..l {
-            for s in 0..5 {
+            for s in 0..SELECTORS {
                 self.selectors[s * n + i] = (s == 0) as u32;
             }
             self.publics[i] = self.contents[rows::place(i, 0)];
@@ -60,7 +60,7 @@ impl Circuit {
     pub fn new(r: &mut Random, p: u32, n: u32) -> Circuit {
         let m = n as usize;
         let labels = labels(r, m);
-        let values = r.elements(p, 3 * m);
+        let values = r.elements(p, lengths::positions(m));
         let held: Vec<u32> = labels.iter().map(|&v| values[v as usize]).collect();
         let l = match r.below(4) {
             0 => 0,
@@ -71,11 +71,11 @@ impl Circuit {
             p,
             n,
             l,
-            selectors: r.elements(p, 5 * m),
+            selectors: r.elements(p, lengths::selectors(m)),
             contents: rows::row_by_row(&held),
             labels,
             publics: vec![0; l as usize],
-            challenges: [r.element(p), r.element(p), r.element(p), r.element(p)],
+            challenges: [0; CHALLENGES].map(|_| r.element(p)),
         };
         if r.once_in(3) {
             for q in circuit.selectors.iter_mut() {
@@ -83,7 +83,7 @@ impl Circuit {
             }
         }
         if r.once_in(6) {
-            circuit.challenges = [0; 4].map(|_| r.pick(&[0, 0, 1, p - 1, 2]));
+            circuit.challenges = [0; CHALLENGES].map(|_| r.pick(&[0, 0, 1, p - 1, 2]));
         }
         circuit.mend_gates();
         circuit
@@ -106,11 +106,11 @@ impl Circuit {
     // denominator.
     pub fn damage(&mut self, r: &mut Random) {
         let (p, n, l) = (self.p, self.n as usize, self.l as usize);
-        let k = r.below(3 * n);
+        let k = r.below(lengths::positions(n));
         let at = rows::place(k % n, k / n);
         match r.below(5) {
             0 => {
-                let q = r.below(5 * n);
+                let q = r.below(lengths::selectors(n));
                 self.selectors[q] = r.element(p);
             }
             1 => self.contents[at] = r.element(p),
@@ -120,7 +120,7 @@ impl Circuit {
             }
             3 if l > 0 => {
                 let any = r.element(p);
-                self.selectors[r.below(5) * n + r.below(l)] = r.pick(&[0, 1, 2, p - 1, any]);
+                self.selectors[r.below(SELECTORS) * n + r.below(l)] = r.pick(&[0, 1, 2, p - 1, any]);
             }
             _ => {
                 let own = rows::marks(p, &points(p, n));
@@ -141,18 +141,18 @@ impl Circuit {
 
     fn prepared(&self) -> Vec<u32> {
         let n = self.n as usize;
-        let mut written = vec![0; 8 * n];
-        plain::prepare(self.p, self.n, self.l, &self.selectors, &self.labels, &mut written, &mut vec![0; 16 * n]);
+        let mut written = vec![0; lengths::prepared(n)];
+        plain::prepare(self.p, self.n, self.l, &self.selectors, &self.labels, &mut written, &mut vec![0; lengths::scratch(n)]);
         written
     }
 
     // The transcript of the plain implementation, over a retired prime too; zeros where it refuses.
     fn transcript(&self) -> Vec<u32> {
         let n = self.n as usize;
-        let mut transcript = vec![0; 7 * n - 3];
-        let scratch = &mut vec![0; 16 * n];
+        let mut transcript = vec![0; lengths::transcript(n)];
+        let scratch = &mut vec![0; lengths::scratch(n)];
         let (s, c) = (&self.selectors, &self.contents);
-        let challenges = &self.challenges[..3];
+        let challenges = &self.challenges[..PROVE_CHALLENGES];
         plain::prove_filed(add_product, self.p, self.n, self.l, s, &self.labels, c, &self.publics, &mut transcript, challenges, scratch);
         transcript
     }
@@ -164,7 +164,7 @@ impl Circuit {
             n: self.n,
             prepared: self.prepared(),
             transcript: self.transcript(),
-            list: (0..POLYNOMIALS).collect(),
+            list: (0..POLYNOMIALS as u32).collect(),
             challenges: [self.challenges[3], self.challenges[2]],
         }
     }
@@ -172,24 +172,24 @@ impl Circuit {
     // The call of a kind on this circuit. Buffers that are only written hold anything.
     pub fn case(&self, r: &mut Random, kind: Kind) -> Case {
         let (p, n) = (self.p, self.n as usize);
-        let (beta, gamma) = (self.challenges[0], self.challenges[1]);
         let selectors = self.selectors.clone();
         let labels = self.labels.clone();
         let contents = self.contents.clone();
         let publics = self.publics.clone();
-        let scratch = r.words(16 * n);
+        let scratch = r.words(lengths::scratch(n));
+        let first = |count: usize| self.challenges[..count].to_vec();
         let buffers = match kind {
             Kind::Inverse => vec![],
             Kind::Evaluate | Kind::Interpolate => vec![r.elements(p, n), r.words(n), scratch],
-            Kind::Permutation => vec![labels, r.words(3 * n)],
-            Kind::Prepare => vec![selectors, labels, r.words(8 * n), scratch],
-            Kind::CheckRows => vec![selectors, labels, contents, publics, self.z(), vec![beta, gamma]],
+            Kind::Permutation => vec![labels, r.words(lengths::positions(n))],
+            Kind::Prepare => vec![selectors, labels, r.words(lengths::prepared(n)), scratch],
+            Kind::CheckRows => vec![selectors, labels, contents, publics, self.z(), first(CHECK_ROWS_CHALLENGES)],
             Kind::CheckPoint => vec![publics, self.prepared(), self.transcript(), self.challenges.to_vec(), scratch],
             Kind::Open | Kind::CheckOpening => return self.opening().case(r, kind),
-            Kind::Prove => vec![selectors, labels, contents, publics, r.words(7 * n - 3), self.challenges[..3].to_vec(), scratch],
-            Kind::LostGammas => vec![contents, vec![beta]],
-            Kind::ToRows => vec![rows::by_position(&contents), r.words(3 * n)],
-            Kind::ToColumns => vec![contents, r.words(3 * n)],
+            Kind::Prove => vec![selectors, labels, contents, publics, r.words(lengths::transcript(n)), first(PROVE_CHALLENGES), scratch],
+            Kind::LostGammas => vec![contents, first(LOST_GAMMAS_CHALLENGES)],
+            Kind::ToRows => vec![rows::by_position(&contents), r.words(lengths::positions(n))],
+            Kind::ToColumns => vec![contents, r.words(lengths::positions(n))],
         };
         let n = if kind == Kind::Inverse { r.element(p) } else { self.n };
         Case { kind, p, n, l: self.l, buffers }
@@ -203,7 +203,7 @@ pub fn disturb(r: &mut Random, case: &mut Case) {
     let length = case.buffers[k].len();
     let bound = match case.kind.roles()[k] {
         Role::Elements => p,
-        Role::Polynomials => POLYNOMIALS,
+        Role::Polynomials => POLYNOMIALS as u32,
         Role::Labels | Role::Words | Role::Written => return,
     };
     if length > 0 {
@@ -277,8 +277,8 @@ pub fn damage(r: &mut Random, case: &mut Case) {
             };
             let bound = match kind.roles()[k] {
                 Role::Elements => p,
-                Role::Labels => n.wrapping_mul(3),
-                Role::Polynomials => POLYNOMIALS,
+                Role::Labels => n.wrapping_mul(lengths::COLUMNS as u32),
+                Role::Polynomials => POLYNOMIALS as u32,
                 Role::Words => u32::MAX,
                 Role::Written => return,
             };

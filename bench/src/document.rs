@@ -1,6 +1,7 @@
 // The sheet of document 01 with the answers that it gives, and openings of its polynomials, joins of it, counts of the gammas that are lost with it and
 // its contents in both layouts, with answers worked out by hand, on both sides.
 use crate::kinds::{plainly, proved, Case, Kind};
+use crate::lengths::{opening as opening_length, positions, prepared, scratch, selectors, transcript, READ, TEXT};
 use crate::random::Random;
 use crate::{calls, gammas, join_compare, plain, sheets};
 
@@ -18,19 +19,21 @@ const PUBLIC_TWICE: &str =
     "17,4,2\n1,0,0,0,0,0,1,2\n1,0,0,0,0,6,7,8\n1,1,16,0,0,2,2,3\n1,1,16,0,0,8,8,9\n2,3,6\n2,3,6\n6,6,12\n6,6,12\n2\n2\n1,1,2,2\n";
 const PRINTED: &str = "a,4,15\nb,13,7\nc,9,14\nz,16,2\nt,9,12,15\naccept\n";
 
-const SELECTORS: [u32; 10] = [0, 1, 0, 1, 16, 16, 1, 0, 0, 0];
-const LABELS: [u32; 6] = [0, 2, 1, 2, 2, 3];
+// The rows of the sheet, and its numbers as they are lent.
+const N: usize = 2;
+const SELECTORS: [u32; selectors(N)] = [0, 1, 0, 1, 16, 16, 1, 0, 0, 0];
+const LABELS: [u32; positions(N)] = [0, 2, 1, 2, 2, 3];
 // Row by row, and as they were lent before, column after column.
-const CONTENTS: [u32; 6] = [2, 3, 6, 6, 6, 12];
-const COLUMNS: [u32; 6] = [2, 6, 3, 6, 6, 12];
-const TRANSCRIPT: [u32; 11] = [4, 15, 13, 7, 9, 14, 16, 2, 9, 12, 15];
+const CONTENTS: [u32; positions(N)] = [2, 3, 6, 6, 6, 12];
+const COLUMNS: [u32; positions(N)] = [2, 6, 3, 6, 6, 12];
+const TRANSCRIPT: [u32; transcript(N)] = [4, 15, 13, 7, 9, 14, 16, 2, 9, 12, 15];
 // How many gammas are lost with each beta: 91 of the 289 pairs together.
 const LOST: [u32; 17] = [4, 4, 5, 6, 6, 4, 5, 6, 4, 5, 6, 6, 6, 6, 6, 6, 6];
 
 // A call on both sides: the answer's words, then the numbers of the buffer that is looked at.
 fn expect(name: &str, kind: Kind, l: u32, buffers: &[&[u32]], words: &[u32], at: usize, due: &[u32]) -> usize {
     let buffers: Vec<Vec<u32>> = buffers.iter().map(|b| b.to_vec()).collect();
-    let case = Case { kind, p: 17, n: 2, l, buffers };
+    let case = Case { kind, p: 17, n: N as u32, l, buffers };
     let mut off = 0;
     for side in ["plain", "proved"] {
         let mut own = case.buffers.clone();
@@ -50,7 +53,7 @@ fn expect(name: &str, kind: Kind, l: u32, buffers: &[&[u32]], words: &[u32], at:
 }
 
 fn prove(name: &str, contents: &[u32], challenges: &[u32], words: &[u32], due: &[u32]) -> usize {
-    expect(name, Kind::Prove, 0, &[&SELECTORS, &LABELS, contents, &[], &[7; 11], challenges, &[7; 32]], words, 4, due)
+    expect(name, Kind::Prove, 0, &[&SELECTORS, &LABELS, contents, &[], &[7; transcript(N)], challenges, &[7; scratch(N)]], words, 4, due)
 }
 
 fn rows(name: &str, contents: &[u32], z: &[u32], challenges: &[u32], words: &[u32]) -> usize {
@@ -60,11 +63,11 @@ fn rows(name: &str, contents: &[u32], z: &[u32], challenges: &[u32], words: &[u3
 // An opening of the sheet's polynomials: both results, and the check accepts them.
 fn opening(name: &str, prepared: &[u32], list: &[u32], challenges: &[u32], evaluations: &[u32], due: &[u32]) -> usize {
     let untouched = vec![7; list.len()];
-    let blank: [&[u32]; 7] = [prepared, &TRANSCRIPT, list, &untouched, &[7; 2], challenges, &[7; 32]];
-    let right: [&[u32]; 7] = [prepared, &TRANSCRIPT, list, evaluations, due, challenges, &[7; 32]];
+    let blank: [&[u32]; 7] = [prepared, &TRANSCRIPT, list, &untouched, &[7; opening_length(N)], challenges, &[7; scratch(N)]];
+    let right: [&[u32]; 7] = [prepared, &TRANSCRIPT, list, evaluations, due, challenges, &[7; scratch(N)]];
     expect(name, Kind::Open, 0, &blank, &[0, 0], 3, evaluations)
         + expect(name, Kind::Open, 0, &blank, &[0, 0], 4, due)
-        + expect(name, Kind::CheckOpening, 0, &right, &[0, 0, 1], 6, &[0; 32])
+        + expect(name, Kind::CheckOpening, 0, &right, &[0, 0, 1], 6, &[0; scratch(N)])
 }
 
 // With row 1 as 5,7,12, beta 1 and gamma 1, no z passes.
@@ -83,11 +86,11 @@ fn no_pass(contents: &[u32], z: &[u32]) -> usize {
 // What `deposit` prints of the sheet with a part of it changed, on both sides.
 fn deposit(name: &str, from: &str, to: &str, due: &str) -> usize {
     let sheet = std::str::from_utf8(SHEET).unwrap().replacen(from, to, 1);
-    let mut text = vec![7; sheets::TEXT];
+    let mut text = vec![7; TEXT];
     let mut answer = [7; 3];
     calls::deposit(sheet.as_bytes(), &mut text, &mut answer);
     let mut whole = due.as_bytes().to_vec();
-    whole.resize(sheets::TEXT, 0);
+    whole.resize(TEXT, 0);
     if sheets::printed(sheet.as_bytes()) != due || text != whole || answer != [0, 0, due.len() as u32] {
         println!("DIFFERENCE from document 01, {name}: plain prints {:?}", sheets::printed(sheet.as_bytes()));
         println!("  proved answers {answer:?}: {}", text.escape_ascii().to_string().split("\\x00").next().unwrap());
@@ -190,10 +193,10 @@ fn losses() -> usize {
 // What `read` lays of the sheet's contents.
 fn reading() -> usize {
     let mut due = CONTENTS.to_vec();
-    due.resize(sheets::LENGTHS[2], 0);
+    due.resize(READ[2], 0);
     let mut off = 0;
     for side in ["plain", "proved"] {
-        let mut own = sheets::LENGTHS.map(|length| vec![7; length]);
+        let mut own = READ.map(|length| vec![7; length]);
         let [a, b, c, d, e] = &mut own;
         let mut answer = [7; 5];
         if side == "plain" {
@@ -211,7 +214,7 @@ fn reading() -> usize {
 
 // The contents as they are read, taken from one layout to the other, and lengths that are refused.
 fn layouts() -> usize {
-    let untouched = [7; 6];
+    let untouched = [7; positions(N)];
     let mut off = reading();
     off += expect("to rows", Kind::ToRows, 0, &[&COLUMNS, &untouched], &[0, 0], 1, &CONTENTS);
     off += expect("to columns", Kind::ToColumns, 0, &[&CONTENTS, &untouched], &[0, 0], 1, &COLUMNS);
@@ -223,9 +226,9 @@ fn layouts() -> usize {
 }
 
 pub fn run() -> usize {
-    let untouched = [7; 11];
+    let untouched = [7; transcript(N)];
     let mut off = 0;
-    off += expect("wiring", Kind::Permutation, 0, &[&LABELS, &[7; 6]], &[0, 0], 1, &[0, 3, 2, 4, 1, 5]);
+    off += expect("wiring", Kind::Permutation, 0, &[&LABELS, &[7; positions(N)]], &[0, 0], 1, &[0, 3, 2, 4, 1, 5]);
     off += prove("the transcript", &CONTENTS, &[1, 1, 2], &[0, 0], &TRANSCRIPT);
     off += prove("last content 11", &[2, 3, 6, 6, 6, 11], &[1, 1, 2], &[9, 1], &untouched);
     off += prove("row 1 as 5,7,12", &[2, 3, 6, 5, 7, 12], &[1, 1, 2], &[10, 3], &untouched);
@@ -239,12 +242,13 @@ pub fn run() -> usize {
             off += no_pass(&[2, 3, 6, 5, 7, 12], &[z0, z1]);
         }
     }
-    let mut prepared = [7; 16];
-    plain::prepare(17, 2, 0, &SELECTORS, &LABELS, &mut prepared, &mut [7; 32]);
-    off += expect("prepared", Kind::Prepare, 0, &[&SELECTORS, &LABELS, &[7; 16], &[7; 32]], &[0, 0], 2, &prepared);
-    off += expect("accept", Kind::CheckPoint, 0, &[&[], &prepared, &TRANSCRIPT, &[1, 1, 2, 2], &[7; 32]], &[0, 0, 1], 4, &[0; 32]);
-    off += opening("a, b, c, z and t at 2, m 3", &prepared, &[8, 9, 10, 11, 12], &[2, 3], &[0, 10, 3, 3, 8], &[14, 8]);
-    off += opening("z twice at row 1's point, m 1", &prepared, &[11, 11], &[16, 1], &[14, 14], &[4, 0]);
+    let mut made = [7; prepared(N)];
+    plain::prepare(17, 2, 0, &SELECTORS, &LABELS, &mut made, &mut [7; scratch(N)]);
+    off += expect("prepared", Kind::Prepare, 0, &[&SELECTORS, &LABELS, &[7; prepared(N)], &[7; scratch(N)]], &[0, 0], 2, &made);
+    let lent: [&[u32]; 5] = [&[], &made, &TRANSCRIPT, &[1, 1, 2, 2], &[7; scratch(N)]];
+    off += expect("accept", Kind::CheckPoint, 0, &lent, &[0, 0, 1], 4, &[0; scratch(N)]);
+    off += opening("a, b, c, z and t at 2, m 3", &made, &[8, 9, 10, 11, 12], &[2, 3], &[0, 10, 3, 3, 8], &[14, 8]);
+    off += opening("z twice at row 1's point, m 1", &made, &[11, 11], &[16, 1], &[14, 14], &[4, 0]);
     off += deposits();
     off += public_rows();
     off += joins();

@@ -2,6 +2,7 @@
 use crate::calls;
 use crate::cases::Circuit;
 use crate::kinds::{proved, Case, Kind};
+use crate::lengths::LOST_GAMMAS_CHALLENGES;
 use crate::loss_cases::sizes;
 use crate::losses::{self, sums};
 use crate::numbers::{add, sub, CURRENT, LARGEST};
@@ -42,7 +43,7 @@ fn tried(circuit: &Circuit) -> BTreeSet<u32> {
 
 // How many gammas are lost, by both sides' counts.
 fn counts(circuit: &Circuit) -> [[u32; 3]; 2] {
-    let beta = &circuit.challenges[..1];
+    let beta = &circuit.challenges[..LOST_GAMMAS_CHALLENGES];
     let mut answer = [7; 3];
     calls::lost_gammas(circuit.p, circuit.n, &circuit.contents, beta, &mut answer);
     [losses::lost_gammas(circuit.p, circuit.n, &circuit.contents, beta), answer]

@@ -9,7 +9,7 @@ const SOURCE: &str = "crates/exports/src/lib.rt";
 const RUST: &str = "bench/src/calls.rs";
 
 // The repository's folder.
-fn root() -> PathBuf {
+pub fn root() -> PathBuf {
     Path::new(env!("CARGO_MANIFEST_DIR")).join("..")
 }
 

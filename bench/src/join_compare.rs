@@ -3,11 +3,11 @@ use crate::calls;
 use crate::cases::Circuit;
 use crate::compare::over;
 use crate::document::SHEET;
-use crate::joins::{self, JOINED};
+use crate::joins;
+use crate::lengths::{positions, selectors, CHALLENGES, JOINED, TEXT};
 use crate::random::Random;
 use crate::sheet_cases::{noise, sheet_of};
 use crate::sheet_compare::{all_small, files, first_difference, inner, one_sheet, sizes, wrong, Count, AROUND};
-use crate::sheets::TEXT;
 use std::hint::black_box;
 use std::path::Path;
 
@@ -117,21 +117,22 @@ fn uniform(p: u32, n: u32, l: u32, x: u32, label: u32) -> Vec<u8> {
         p,
         n,
         l,
-        selectors: (0..5 * m).map(selector).collect(),
-        labels: vec![label; 3 * m],
-        contents: vec![x; 3 * m],
+        selectors: (0..selectors(m)).map(selector).collect(),
+        labels: vec![label; positions(m)],
+        contents: vec![x; positions(m)],
         publics: vec![x; l as usize],
-        challenges: [x; 4],
+        challenges: [x; CHALLENGES],
     })
 }
 
 // Pairs of these: the shortest sheets and the longest, and the least and the greatest number of every number of digits.
 fn all_uniform(r: &mut Random, p: u32, n: u32, count: &mut Count) {
     let tens = (0..10).map(|k| 10u32.pow(k));
+    let last = positions(n as usize) as u32 - 1;
     for x in tens.flat_map(|ten| [ten - 1, ten]).chain([p - 1]).filter(|&x| x < p) {
         for (l, m) in [(0, 0), (0, n), (n, 0), (n, n)] {
-            for label in [0, 3 * n - 1] {
-                let pair = [uniform(p, n, l, x, label), uniform(p, n, m, p - 1 - x, 3 * n - 1 - label)];
+            for label in [0, last] {
+                let pair = [uniform(p, n, l, x, label), uniform(p, n, m, p - 1 - x, last - label)];
                 try_pair(r, &pair, count);
             }
         }

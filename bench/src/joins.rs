@@ -1,11 +1,9 @@
 // The joining of two sheets of document 02, written plainly from its text.
 use crate::cases::Circuit;
+use crate::lengths::{positions, GATE_LINE, JOINED, MOST_ROWS_SHEET, SELECTORS};
 use crate::plain::{admitted, Refusal};
 use crate::rows::row_of;
-use crate::sheets::{judge, parse, MOST_ROWS};
-
-// The bytes of the buffer that the joined sheet is written into.
-pub const JOINED: usize = 65536;
+use crate::sheets::{judge, parse};
 
 // The reasons in their order: those of the first sheet, with 6 between 5 and 7; those of the second, which has no 6; those of the pair.
 fn decide(one: &[u8], two: &[u8], room: usize) -> Result<[Circuit; 2], Refusal> {
@@ -20,7 +18,7 @@ fn decide(one: &[u8], two: &[u8], room: usize) -> Result<[Circuit; 2], Refusal> 
         return Err([15, 0]);
     }
     admitted(first.p, 2 * first.n)?;
-    if 2 * first.n > MOST_ROWS {
+    if 2 * first.n > MOST_ROWS_SHEET {
         return Err([3, 0]);
     }
     Ok([first, second])
@@ -71,11 +69,11 @@ fn write(pair: &[Circuit; 2]) -> Vec<u8> {
     let mut out = Vec::with_capacity(JOINED);
     put_line(&mut out, &[one.p, 2 * one.n, one.l + two.l]);
     for &(k, i) in &rows {
-        let mut line = [0; 8];
+        let mut line = [0; GATE_LINE];
         for (column, number) in line.iter_mut().enumerate() {
-            *number = match column {
-                0..=4 => pair[k].selectors[column * n + i],
-                _ => pair[k].labels[(column - 5) * n + i] + [0, 3 * one.n][k],
+            *number = match column.checked_sub(SELECTORS) {
+                None => pair[k].selectors[column * n + i],
+                Some(column) => pair[k].labels[column * n + i] + [0, positions(n) as u32][k],
             };
         }
         put_line(&mut out, &line);

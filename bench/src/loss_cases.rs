@@ -1,5 +1,6 @@
 // Contents with a beta: all different, few different, and those that give the library the most work, lent rightly and otherwise.
 use crate::kinds::{Case, Kind};
+use crate::lengths::{positions, LOST_GAMMAS_CHALLENGES};
 use crate::numbers::*;
 use crate::opening_cases::every_place;
 use crate::random::Random;
@@ -14,15 +15,16 @@ fn case(p: u32, n: u32, contents: Vec<u32>, beta: u32) -> Case {
 
 // Any contents.
 pub fn any(r: &mut Random, p: u32, n: u32) -> Case {
-    let contents = r.elements(p, 3 * n as usize);
+    let contents = r.elements(p, positions(n as usize));
     let beta = r.element(p);
     case(p, n, contents, beta)
 }
 
 // The worst case: the library parts the sums by their remainders modulo 3n, and here all remainders are 0. Over the largest prime all sums differ.
 pub fn one_remainder(p: u32, n: u32) -> Case {
-    let many = (p - 1) / (3 * n) + 1;
-    case(p, n, (0..3 * n).map(|k| k % many * 3 * n).collect(), 0)
+    let count = positions(n as usize) as u32;
+    let many = (p - 1) / count + 1;
+    case(p, n, (0..count).map(|k| k % many * count).collect(), 0)
 }
 
 // Numbers below p with one remainder modulo `step`, any of them or few: from the lowest up, or in any order.
@@ -38,7 +40,7 @@ fn alike(r: &mut Random, p: u32, step: u32, count: usize) -> Vec<u32> {
 
 // A number for every position: any, few different ones, one only, or with one remainder modulo 3n or modulo another number.
 fn numbers(r: &mut Random, p: u32, n: u32) -> Vec<u32> {
-    let count = 3 * n as usize;
+    let count = positions(n as usize);
     match r.below(6) {
         0 | 1 => r.elements(p, count),
         2 => {
@@ -47,7 +49,7 @@ fn numbers(r: &mut Random, p: u32, n: u32) -> Vec<u32> {
             (0..count).map(|_| r.pick(&from)).collect()
         }
         3 => vec![r.pick(&[0, 0, 1, p - 1]); count],
-        4 => alike(r, p, 3 * n, count),
+        4 => alike(r, p, count as u32, count),
         _ => {
             let step = 1 + r.below(6 * count) as u32;
             alike(r, p, step, count)
@@ -93,8 +95,9 @@ fn every_beta(r: &mut Random) -> Vec<Case> {
 
 // Two rows over 17 with every beta, and contents of 0, 1 and 2 in every way.
 fn every_filling() -> Vec<Case> {
-    let digits = |x: u32| (0..6).map(|k| x / 3u32.pow(k) % 3).collect::<Vec<u32>>();
-    (0..3u32.pow(6)).flat_map(|x| (0..17).map(move |beta| case(17, 2, digits(x), beta))).collect()
+    let count = positions(2) as u32;
+    let digits = move |x: u32| (0..count).map(|k| x / 3u32.pow(k) % 3).collect::<Vec<u32>>();
+    (0..3u32.pow(count)).flat_map(|x| (0..17).map(move |beta| case(17, 2, digits(x), beta))).collect()
 }
 
 // Every size with all contents 0, or all p - 1, and beta 0, 1 or p - 1; and its worst case.
@@ -103,7 +106,7 @@ fn every_size() -> Vec<Case> {
     for (p, n) in sizes() {
         out.push(one_remainder(p, n));
         for x in [0, p - 1] {
-            out.extend([0, 1, p - 1].map(|beta| case(p, n, vec![x; 3 * n as usize], beta)));
+            out.extend([0, 1, p - 1].map(|beta| case(p, n, vec![x; positions(n as usize)], beta)));
         }
     }
     out
@@ -114,8 +117,8 @@ fn every_size() -> Vec<Case> {
 fn every_fault() -> Vec<Case> {
     let mut out = Vec::new();
     for (p, n) in [(17, 2), (18, 2), (17, 3), (18, 3), (17, 4), (17, 8)] {
-        for length in 0..=7 {
-            for betas in 0..=2 {
+        for length in 0..=positions(2) as u32 + 1 {
+            for betas in 0..=LOST_GAMMAS_CHALLENGES + 1 {
                 for beta in [1, 17] {
                     let buffers = vec![(0..length).collect(), vec![beta; betas]];
                     let lent = Case { kind: Kind::LostGammas, p, n, l: 0, buffers };

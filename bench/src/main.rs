@@ -1,7 +1,7 @@
 // Compares the proved library with a plain implementation of document 01 and of the openings, joins, lost gammas and transfers of contents of document
-// 02, holds the C header to the library, and measures stack and time. Run it from the repository's root:
+// 02, holds the C header to the library, runs the programs, and measures stack and time. Run it from the repository's root:
 //
-//     rt staticlib exports && cargo run --release --manifest-path bench/Cargo.toml
+//     rt check deposit join filed && rt staticlib exports && cargo run --release --manifest-path bench/Cargo.toml
 //
 // The parts, of which those named behind `--` are run, or all if none is:
 //
@@ -10,6 +10,7 @@
 //               from one layout to the other and back; then lends the same inputs to both, many of them, short and long, valid and damaged, and
 //               compares every word of every buffer afterwards, those that a call only reads and the words around each lent part among them
 //     header    compares include/guppyspoon.h with the library's source, and compiles and runs the C programs that include it
+//     programs  runs deposit, join and filed on inputs and outputs of every kind, those that fail among them, and looks at what they print and tell
 //     stack     prints the stack that each call takes at its largest size, beside what the header says
 //     measure   prints the time of each call on both sides and the ratio
 //     growth    prints the same of prove and lost_gammas at every number of rows, from 2 to 1,024, and of join, from 2 to 128 rows of each sheet
@@ -29,6 +30,7 @@ mod header;
 mod join_compare;
 mod joins;
 mod kinds;
+mod lengths;
 mod loss_cases;
 mod losses;
 mod measure;
@@ -38,8 +40,10 @@ mod openings;
 mod plain;
 mod polynomials;
 mod products;
+mod programs;
 mod random;
 mod rows;
+mod running;
 mod sheet_cases;
 mod sheet_compare;
 mod sheets;
@@ -49,7 +53,7 @@ mod transfer_compare;
 mod transfers;
 mod transforms;
 
-const PARTS: [&str; 5] = ["compare", "header", "stack", "measure", "growth"];
+const PARTS: [&str; 6] = ["compare", "header", "programs", "stack", "measure", "growth"];
 
 // The sheets of a folder, and its pairs of sheets. How many differ; a folder that has neither was meant to have some.
 fn run_folder(folder: &Path) -> usize {
@@ -89,6 +93,9 @@ fn main() {
     }
     if says("header") {
         differences += header::run();
+    }
+    if says("programs") {
+        differences += programs::run();
     }
     if says("stack") {
         differences += stack::run();

@@ -1,13 +1,14 @@
 // The time of each call on both sides, on the same valid input, and the ratio.
 use crate::calls;
 use crate::cases::Circuit;
-use crate::joins::{self, JOINED};
+use crate::joins;
 use crate::kinds::{plainly, proved, Case, Kind};
+use crate::lengths::{JOINED, MOST_ROWS_SHEET, READ, TEXT};
 use crate::loss_cases;
 use crate::numbers::{field, LARGEST};
 use crate::random::Random;
 use crate::sheet_cases::sheet_of;
-use crate::sheets::{self, LENGTHS, MOST_ROWS, TEXT};
+use crate::sheets;
 use std::hint::black_box;
 
 #[repr(C)]
@@ -73,7 +74,7 @@ fn measure_losses(r: &mut Random, n: u32) {
 
 // Reading a sheet.
 fn measure_read(n: u32, sheet: &[u8]) {
-    let mut one = LENGTHS.map(|length| vec![0; length]);
+    let mut one = READ.map(|length| vec![0; length]);
     let mut other = one.clone();
     let mut answer = [0; 5];
     measure(
@@ -143,13 +144,13 @@ pub fn run() {
         ] {
             measure_case(&circuit.case(&mut r, kind));
         }
-        if n <= MOST_ROWS {
+        if n <= MOST_ROWS_SHEET {
             let sheet = sheet_of(&circuit);
             measure_read(n, &sheet);
             measure_deposit(n, &sheet);
         }
     }
-    for n in [16, 64, MOST_ROWS / 2] {
+    for n in [16, 64, MOST_ROWS_SHEET / 2] {
         measure_join(&mut r, n);
     }
     for n in [64, 256, 1024] {
@@ -168,7 +169,7 @@ pub fn growth() {
         n *= 2;
     }
     let mut n = 2;
-    while 2 * n <= MOST_ROWS {
+    while 2 * n <= MOST_ROWS_SHEET {
         measure_join(&mut r, n);
         n *= 2;
     }

@@ -1,7 +1,8 @@
 // Openings: lists of polynomials with a point and a mixing number, lent rightly and otherwise.
 use crate::kinds::{Case, Kind};
+use crate::lengths::{self, OPENING_CHALLENGES, POLYNOMIALS};
 use crate::numbers::*;
-use crate::openings::{self, MOST, POLYNOMIALS};
+use crate::openings;
 use crate::random::Random;
 
 // The places of three of the buffers of both calls.
@@ -16,7 +17,7 @@ pub struct Opening {
     pub prepared: Vec<u32>,
     pub transcript: Vec<u32>,
     pub list: Vec<u32>,
-    pub challenges: [u32; 2],
+    pub challenges: [u32; OPENING_CHALLENGES],
 }
 
 fn coefficients(r: &mut Random, p: u32, count: usize) -> Vec<u32> {
@@ -30,16 +31,16 @@ impl Opening {
     // Some list of any polynomials, which no circuit need have. The point is often a row's, and m often 0 or 1.
     pub fn new(r: &mut Random, p: u32, n: u32) -> Opening {
         let m = n as usize;
-        let length = 1 + r.below(MOST);
+        let length = 1 + r.below(POLYNOMIALS);
         let any = r.element(p);
         let row = r.pick(&points(p, m));
         let mixing = r.element(p);
         Opening {
             p,
             n,
-            prepared: coefficients(r, p, 8 * m),
-            transcript: coefficients(r, p, 7 * m - 3),
-            list: r.elements(POLYNOMIALS, length),
+            prepared: coefficients(r, p, lengths::prepared(m)),
+            transcript: coefficients(r, p, lengths::transcript(m)),
+            list: r.elements(POLYNOMIALS as u32, length),
             challenges: [r.pick(&[any, any, row, 0]), r.pick(&[mixing, mixing, mixing, 0, 1, p - 1])],
         }
     }
@@ -48,8 +49,8 @@ impl Opening {
     pub fn case(self, r: &mut Random, kind: Kind) -> Case {
         let Opening { p, n, prepared, transcript, list, challenges } = self;
         let mut evaluations = r.words(list.len());
-        let mut opening = r.words(3 * n as usize - 4);
-        let scratch = r.words(16 * n as usize);
+        let mut opening = r.words(lengths::opening(n as usize));
+        let scratch = r.words(lengths::scratch(n as usize));
         if kind == Kind::CheckOpening {
             let spare = &mut scratch.clone();
             openings::open(p, n, &prepared, &transcript, &list, &mut evaluations, &mut opening, &challenges, spare);
@@ -75,9 +76,9 @@ pub fn mislead(r: &mut Random, case: &mut Case) {
 // Another list, with as many evaluations: often of a length that is refused, often with numbers that are.
 pub fn relist(r: &mut Random, case: &mut Case) {
     let p = case.p.max(1);
-    let some = 1 + r.below(MOST);
-    let length = r.pick(&[0, MOST + 1, MOST + 2, some, some]);
-    let bound = r.pick(&[POLYNOMIALS, POLYNOMIALS + 2]);
+    let some = 1 + r.below(POLYNOMIALS);
+    let length = r.pick(&[0, POLYNOMIALS + 1, POLYNOMIALS + 2, some, some]);
+    let bound = r.pick(&[POLYNOMIALS, POLYNOMIALS + 2]) as u32;
     case.buffers[LIST] = r.elements(bound, length);
     case.buffers[EVALUATIONS].resize_with(length, || r.element(p));
 }
@@ -110,12 +111,12 @@ fn every_length(case: &Case) -> Vec<Case> {
     out
 }
 
-// Lists of 0 to 15 numbers, all of them polynomials' or some of them beyond.
+// Lists of up to two numbers more than there may be, all of them polynomials' or some of them beyond.
 fn every_list(r: &mut Random, kind: Kind, p: u32, n: u32) -> Vec<Case> {
     let mut out = Vec::new();
-    for length in 0..=MOST + 2 {
+    for length in 0..=POLYNOMIALS + 2 {
         for bound in [POLYNOMIALS, POLYNOMIALS + 2] {
-            let list = r.elements(bound, length);
+            let list = r.elements(bound as u32, length);
             let opening = Opening { list, ..Opening::new(r, p, n) };
             out.push(opening.case(r, kind));
         }

@@ -1,9 +1,9 @@
 // Sheets: those of generated circuits, and changes of their bytes and lines.
 use crate::cases::Circuit;
+use crate::lengths::{positions, COLUMNS, SELECTORS, SHEET};
 use crate::numbers::LARGEST;
 use crate::random::Random;
 use crate::rows::row_of;
-use crate::sheets::LONGEST;
 
 fn push_line(out: &mut Vec<u8>, numbers: impl Iterator<Item = u32>) {
     let fields: Vec<String> = numbers.map(|x| x.to_string()).collect();
@@ -17,8 +17,8 @@ pub fn sheet_of(c: &Circuit) -> Vec<u8> {
     let mut out = Vec::new();
     push_line(&mut out, [c.p, c.n, c.l].into_iter());
     for i in 0..n {
-        let selectors = (0..5).map(|k| c.selectors[k * n + i]);
-        push_line(&mut out, selectors.chain((0..3).map(|k| c.labels[k * n + i])));
+        let selectors = (0..SELECTORS).map(|k| c.selectors[k * n + i]);
+        push_line(&mut out, selectors.chain((0..COLUMNS).map(|k| c.labels[k * n + i])));
     }
     for i in 0..n {
         push_line(&mut out, row_of(&c.contents, i).into_iter());
@@ -45,7 +45,8 @@ fn byte(r: &mut Random) -> u8 {
 // A number as it may stand on a sheet, or may not.
 fn field(r: &mut Random, p: u32, n: u32) -> Vec<u8> {
     let any = r.word();
-    let near = r.pick(&[0, 1, p, p.wrapping_sub(1), p.wrapping_add(1), 3 * n, 3 * n - 1, n, n + 1, u32::MAX]);
+    let count = positions(n as usize) as u32;
+    let near = r.pick(&[0, 1, p, p.wrapping_sub(1), p.wrapping_add(1), count, count - 1, n, n + 1, u32::MAX]);
     match r.below(8) {
         0 => any.to_string().into_bytes(),
         1 => (u32::MAX as u64 + r.below(3) as u64).to_string().into_bytes(),
@@ -141,7 +142,7 @@ fn append(r: &mut Random, sheet: &mut Vec<u8>) {
 
 // More bytes, up to about the greatest length.
 fn lengthen(r: &mut Random, sheet: &mut Vec<u8>) {
-    let length = LONGEST - 1 + r.below(4);
+    let length = SHEET - 1 + r.below(4);
     let fill = r.pick(b"0\n,\x001");
     if r.once_in(2) {
         sheet.resize(length.max(sheet.len()), fill);
@@ -183,7 +184,7 @@ pub fn noise(r: &mut Random) -> Vec<u8> {
         1 => r.below(20),
         2 => r.below(300),
         3 => r.below(5000),
-        _ => r.pick(&[LONGEST - 1, LONGEST, LONGEST + 1]),
+        _ => r.pick(&[SHEET - 1, SHEET, SHEET + 1]),
     };
     match r.below(4) {
         0 => (0..length).map(|_| r.word() as u8).collect(),

@@ -3,10 +3,11 @@ use crate::calls;
 use crate::cases::Circuit;
 use crate::compare::over;
 use crate::document::SHEET;
+use crate::lengths::{MOST_ROWS_SHEET, READ, TEXT};
 use crate::numbers::{field, PRIMES};
 use crate::random::Random;
 use crate::sheet_cases::{change, noise, sheet_of};
-use crate::sheets::{self, LENGTHS, MOST_ROWS, TEXT};
+use crate::sheets;
 use std::collections::BTreeMap;
 use std::hint::black_box;
 use std::path::{Path, PathBuf};
@@ -55,7 +56,7 @@ pub fn first_difference<T: PartialEq + std::fmt::Display>(name: &str, ours: &[T]
 }
 
 // One reading on both sides, into buffers of the given lengths.
-fn try_read(r: &mut Random, sheet: &[u8], lengths: [usize; 5], count: &mut Count) {
+fn try_read(r: &mut Random, sheet: &[u8], lengths: [usize; READ.len()], count: &mut Count) {
     let room = r.below(8);
     let mut ours: Vec<Vec<u32>> = lengths.iter().chain([&room]).map(|length| r.words(length + 2 * AROUND)).collect();
     let mut theirs = ours.clone();
@@ -69,7 +70,7 @@ fn try_read(r: &mut Random, sheet: &[u8], lengths: [usize; 5], count: &mut Count
     calls::read(black_box(&sheet_lent), inner(a), inner(b), inner(c), inner(d), inner(e), inner(answer));
 
     let names = ["selectors", "labels", "contents", "public numbers", "challenges", "the answer"];
-    let difference = (0..6).rev().find_map(|k| first_difference(names[k], &ours[k], &theirs[k]));
+    let difference = (0..names.len()).rev().find_map(|k| first_difference(names[k], &ours[k], &theirs[k]));
     let touched = (black_box(&sheet_lent) != sheet).then(|| "the sheet is changed".to_string());
     count.add("Read", words[0].to_string(), &[sheet], difference.or(touched).map(|d| format!("plain answer {words:?}; {d}")));
 }
@@ -102,11 +103,11 @@ pub fn wrong(r: &mut Random, length: usize) -> usize {
 
 // A sheet to both calls, now and then with buffers of other lengths.
 fn try_sheet(r: &mut Random, sheet: &[u8], reads: &mut Count, deposits: &mut Count) {
-    let mut lengths = LENGTHS;
+    let mut lengths = READ;
     if r.once_in(8) {
         for _ in 0..1 + r.below(3) {
-            let k = r.below(5);
-            lengths[k] = wrong(r, LENGTHS[k]);
+            let k = r.below(READ.len());
+            lengths[k] = wrong(r, READ[k]);
         }
     }
     try_read(r, sheet, lengths, reads);
@@ -153,7 +154,7 @@ pub fn all_small(sheet: &[u8], mut each: impl FnMut(&[u8])) {
 
 // Every prime with every number of rows that its sheets may have.
 pub fn sizes() -> Vec<(u32, u32)> {
-    let rows = |p| (1..).map(|k| 1 << k).take_while(move |&n| n <= field(p).unwrap().1.min(MOST_ROWS));
+    let rows = |p| (1..).map(|k| 1 << k).take_while(move |&n| n <= field(p).unwrap().1.min(MOST_ROWS_SHEET));
     PRIMES.into_iter().flat_map(|p| rows(p).map(move |n| (p, n))).collect()
 }
 
@@ -193,7 +194,7 @@ pub fn run_folder(folder: &Path) -> usize {
     let mut outs = 0;
     for file in files(folder, "sheet") {
         let sheet = std::fs::read(&file).unwrap();
-        try_read(&mut r, &sheet, LENGTHS, &mut reads);
+        try_read(&mut r, &sheet, READ, &mut reads);
         try_deposit(&mut r, &sheet, TEXT, &mut deposits);
         if let Ok(out) = std::fs::read(file.with_extension("out")) {
             outs += 1;

@@ -1,13 +1,9 @@
 // The sheet of document 01: reading one, and the text of a deposit, written plainly from the document.
 use crate::cases::Circuit;
-use crate::plain::{self, admitted, bound, current, elements, few, labelled, lengths, Refusal};
+use crate::lengths::{self, COLUMNS, GATE_LINE, MOST_ROWS_SHEET, PROVE_CHALLENGES};
+use crate::plain::{self, admitted, bound, current, elements, few, labelled, Refusal};
 use crate::rows::place;
 use std::fmt::Write;
-
-pub const LONGEST: usize = 65536;
-pub const MOST_ROWS: u32 = 256;
-pub const LENGTHS: [usize; 5] = [1280, 768, 768, 256, 4];
-pub const TEXT: usize = 20480;
 
 // A number: digits, no leading zero, below 2^32 and so of at most 10 digits.
 fn number(field: &[u8]) -> Option<u32> {
@@ -51,7 +47,7 @@ fn block<'a, const K: usize>(
 
 // 1 to 5, and for a new sheet 16 straight after 2.
 pub fn parse(sheet: &[u8], new: bool) -> Result<Circuit, Refusal> {
-    if sheet.len() > LONGEST {
+    if sheet.len() > lengths::SHEET {
         return Err([1, 0]);
     }
     let mut lines = sheet.split_inclusive(|&b| b == 10);
@@ -60,14 +56,14 @@ pub fn parse(sheet: &[u8], new: bool) -> Result<Circuit, Refusal> {
         current(p)?;
     }
     admitted(p, n)?;
-    if n > MOST_ROWS {
+    if n > MOST_ROWS_SHEET {
         return Err([3, 0]);
     }
     few(l, n)?;
     let by_columns = |i: usize, k: usize| k * n as usize + i;
-    let mut selectors = block::<8>(&mut lines, 2, n, by_columns)?;
-    let labels = selectors.split_off(5 * n as usize);
-    let contents = block::<3>(&mut lines, 2 + n, n, place)?;
+    let mut selectors = block::<GATE_LINE>(&mut lines, 2, n, by_columns)?;
+    let labels = selectors.split_off(lengths::selectors(n as usize));
+    let contents = block::<COLUMNS>(&mut lines, 2 + n, n, place)?;
     let publics = block::<1>(&mut lines, 2 + 2 * n, l, |i, _| i)?;
     let challenges = line(lines.next()).ok_or([5, 2 + 2 * n + l])?;
     match lines.next() {
@@ -86,8 +82,8 @@ pub fn judge(s: &Circuit) -> Result<(), Refusal> {
 // 1 to 8 and 14, the buffers in their order.
 fn decide(sheet: &[u8], new: bool, lent: &[&mut [u32]; 5]) -> Result<Circuit, Refusal> {
     let s = parse(sheet, new)?;
-    let due = [0, 1, 2, 3, 4].map(|k| (&*lent[k], LENGTHS[k]));
-    lengths(&due).map_err(|[number, place]| [number, place + 1])?; // the sheet is the first buffer
+    let due = [0, 1, 2, 3, 4].map(|k| (&*lent[k], lengths::READ[k]));
+    plain::lent(&due).map_err(|[number, place]| [number, place + 1])?; // the sheet is the first buffer
     judge(&s)?;
     Ok(s)
 }
@@ -124,10 +120,10 @@ fn print_line(out: &mut String, word: &str, numbers: &[u32]) {
 // The five polynomials and the point verdict.
 fn print_work(s: &Circuit) -> Result<String, Refusal> {
     let n = s.n as usize;
-    let mut transcript = vec![0; 7 * n - 3];
-    let mut prepared = vec![0; 8 * n];
-    let scratch = &mut vec![0; 16 * n];
-    let challenges = &s.challenges[..3];
+    let mut transcript = vec![0; lengths::transcript(n)];
+    let mut prepared = vec![0; lengths::prepared(n)];
+    let scratch = &mut vec![0; lengths::scratch(n)];
+    let challenges = &s.challenges[..PROVE_CHALLENGES];
     let made = plain::prove(s.p, s.n, s.l, &s.selectors, &s.labels, &s.contents, &s.publics, &mut transcript, challenges, scratch);
     if made[0] != 0 {
         return Err(made);
@@ -135,17 +131,18 @@ fn print_work(s: &Circuit) -> Result<String, Refusal> {
     plain::prepare(s.p, s.n, s.l, &s.selectors, &s.labels, &mut prepared, scratch);
     let verdict = plain::check_point(s.p, s.n, s.l, &s.publics, &prepared, &transcript, &s.challenges, scratch);
     let mut out = String::new();
-    for (k, letter) in ["a", "b", "c", "z"].into_iter().enumerate() {
-        print_line(&mut out, letter, &transcript[k * n..(k + 1) * n]);
+    for (k, letter) in ["a", "b", "c"].into_iter().enumerate() {
+        print_line(&mut out, letter, &transcript[lengths::wire_part(n, k)]);
     }
-    print_line(&mut out, "t", &transcript[4 * n..]);
+    print_line(&mut out, "z", &transcript[lengths::z_part(n)]);
+    print_line(&mut out, "t", &transcript[lengths::t_part(n)]);
     print_line(&mut out, ["none", "accept", "reject"][verdict[2] as usize], &[]);
     Ok(out)
 }
 
 // What `deposit` prints.
 pub fn printed(sheet: &[u8]) -> String {
-    let mut own = LENGTHS.map(|length| vec![0; length]);
+    let mut own = lengths::READ.map(|length| vec![0; length]);
     let lent = own.each_mut().map(|b| &mut b[..]);
     match decide(sheet, true, &lent).and_then(|s| print_work(&s)) {
         Ok(out) => out,
@@ -159,7 +156,7 @@ pub fn printed(sheet: &[u8]) -> String {
 
 // That text at the start of a buffer of its length, zeros behind.
 pub fn deposit(sheet: &[u8], text: &mut [u8]) -> [u32; 3] {
-    if text.len() != TEXT {
+    if text.len() != lengths::TEXT {
         return [6, 2, 0];
     }
     let out = printed(sheet);

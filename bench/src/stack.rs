@@ -6,13 +6,12 @@ use crate::cases::Circuit;
 use crate::compare;
 use crate::header::constant;
 use crate::join_compare::{self, Pair};
-use crate::joins::JOINED;
 use crate::kinds::{Case, Kind, KINDS};
+use crate::lengths::{JOINED, MOST_ROWS_SHEET, READ, TEXT};
 use crate::numbers::{field, LARGEST, PRIMES};
 use crate::random::Random;
 use crate::sheet_cases::{noise, sheet_of};
 use crate::sheet_compare;
-use crate::sheets::{LENGTHS, MOST_ROWS, TEXT};
 use std::arch::asm;
 
 // The words of that memory, 2 MB: many times what any call takes.
@@ -105,7 +104,7 @@ impl Meter {
     // Reading a sheet.
     fn read(&mut self, sheet: &[u8]) -> (usize, u32) {
         let mut sheet = sheet.to_vec();
-        let mut buffers = LENGTHS.map(|length| vec![0u32; length]);
+        let mut buffers = READ.map(|length| vec![0u32; length]);
         let mut answer = [0; 5];
         let mut arguments = Arguments::default();
         arguments.slice(&mut sheet);
@@ -203,20 +202,20 @@ fn try_kind(r: &mut Random, meter: &mut Meter, kind: Kind, circuit: &Circuit) ->
 
 // Reading and depositing at 256 rows, and further sheets, good and damaged, and noise.
 fn try_sheets(r: &mut Random, meter: &mut Meter) -> usize {
-    let first = sheet_of(&largest(r, MOST_ROWS));
-    let mut others: Vec<Vec<u8>> = (0..FURTHER).map(|_| sheet_compare::make(r, LARGEST, MOST_ROWS)).collect();
+    let first = sheet_of(&largest(r, MOST_ROWS_SHEET));
+    let mut others: Vec<Vec<u8>> = (0..FURTHER).map(|_| sheet_compare::make(r, LARGEST, MOST_ROWS_SHEET)).collect();
     others.extend((0..FURTHER).map(|_| noise(r)));
     let read = most("read", &first, &others, |sheet| meter.read(sheet));
     let deposit = most("deposit", &first, &others, |sheet| meter.deposit(sheet));
-    let rows = MOST_ROWS.to_string();
+    let rows = MOST_ROWS_SHEET.to_string();
     show("read", &rows, read) + show("deposit", &rows, deposit)
 }
 
 // Joining two sheets of 128 rows, and further pairs, good and damaged, of 256 rows too, and noise.
 fn try_joins(r: &mut Random, meter: &mut Meter) -> usize {
-    let half = MOST_ROWS / 2;
+    let half = MOST_ROWS_SHEET / 2;
     let first = [sheet_of(&largest(r, half)), sheet_of(&largest(r, half))];
-    let mut others: Vec<Pair> = (0..FURTHER).map(|k| join_compare::make(r, LARGEST, [half, MOST_ROWS][k % 2])).collect();
+    let mut others: Vec<Pair> = (0..FURTHER).map(|k| join_compare::make(r, LARGEST, [half, MOST_ROWS_SHEET][k % 2])).collect();
     others.extend((0..FURTHER).map(|_| join_compare::noisy(r)));
     let bytes = most("join", &first, &others, |pair| meter.join(pair));
     show("join", &half.to_string(), bytes)

@@ -1,9 +1,7 @@
 // Words in either layout, of every number of rows that is taken or not, lent rightly and otherwise.
 use crate::kinds::{Case, Kind};
+use crate::lengths::{positions, COLUMNS, MOST_ROWS_LARGEST as MOST};
 use crate::random::Random;
-
-// The most rows that are taken.
-const MOST: u32 = 1024;
 
 // Words to be read, and some to be written over.
 fn case(r: &mut Random, kind: Kind, n: u32, from: Vec<u32>, to: usize) -> Case {
@@ -22,12 +20,12 @@ fn words(r: &mut Random, count: usize) -> Vec<u32> {
 
 // Such words, as many as are due.
 pub fn lent(r: &mut Random, kind: Kind, n: u32) -> Case {
-    let count = 3 * n as usize;
+    let count = positions(n as usize);
     let from = words(r, count);
     case(r, kind, n, from, count)
 }
 
-// Every number of rows up to past twice the most, with three words for each row.
+// Every number of rows up to past twice the most, with a word for each position.
 fn every_size(r: &mut Random, kind: Kind) -> Vec<Case> {
     (0..=2 * MOST + 2).map(|n| lent(r, kind, n)).collect()
 }
@@ -39,7 +37,7 @@ fn every_excess(r: &mut Random, kind: Kind) -> Vec<Case> {
     let thirds = [u32::MAX / 3, u32::MAX / 3 * 2].into_iter().flat_map(|x| x - 1..=x + 5);
     let mut out = Vec::new();
     for n in around.chain(thirds).chain([u32::MAX - 1, u32::MAX]) {
-        let wrapped = n.wrapping_mul(3).min(3 * MOST) as usize;
+        let wrapped = n.wrapping_mul(COLUMNS as u32).min(COLUMNS as u32 * MOST) as usize;
         for count in [0, 6, wrapped] {
             let from = words(r, count);
             out.push(case(r, kind, n, from, count));
@@ -52,10 +50,10 @@ fn every_excess(r: &mut Random, kind: Kind) -> Vec<Case> {
 fn every_length(r: &mut Random, kind: Kind) -> Vec<Case> {
     let mut out = Vec::new();
     for n in 0..=8 {
-        for one in 0..=3 * n as usize + 3 {
-            for other in 0..=3 * n as usize + 3 {
+        for one in 0..=positions(n + 1) {
+            for other in 0..=positions(n + 1) {
                 let from = words(r, one);
-                out.push(case(r, kind, n, from, other));
+                out.push(case(r, kind, n as u32, from, other));
             }
         }
     }
@@ -65,8 +63,8 @@ fn every_length(r: &mut Random, kind: Kind) -> Vec<Case> {
 // Every number of rows that is taken, with one buffer or both shorter or longer by one word, a third or half as long, or twice.
 fn every_near_length(r: &mut Random, kind: Kind) -> Vec<Case> {
     let mut out = Vec::new();
-    for n in (1..=10).map(|k| 1 << k) {
-        let due = 3 * n as usize;
+    for n in (1..).map(|k| 1 << k).take_while(|&n| n <= MOST) {
+        let due = positions(n as usize);
         let lengths = [due, due - 1, due + 1, due / 3, due / 2, 2 * due];
         for one in lengths {
             for other in lengths {

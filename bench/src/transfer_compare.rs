@@ -1,4 +1,5 @@
 // Both ways from one layout to the other, of every size and on both sides: each number against the definition, and there and back.
+use crate::lengths::{positions, COLUMNS, MOST_ROWS_LARGEST};
 use crate::random::Random;
 use crate::{calls, transfers};
 
@@ -28,8 +29,8 @@ fn made(call: Call, n: u32, from: &[u32]) -> Option<Vec<u32>> {
 // The same words taken either way, and back again. How much is off.
 fn try_words(side: &str, to_rows: Call, to_columns: Call, n: u32, words: &[u32]) -> usize {
     let m = n as usize;
-    let rows: Vec<u32> = (0..3 * m).map(|j| words[j % 3 * m + j / 3]).collect();
-    let columns: Vec<u32> = (0..3 * m).map(|k| words[3 * (k % m) + k / m]).collect();
+    let rows: Vec<u32> = (0..positions(m)).map(|j| words[j % COLUMNS * m + j / COLUMNS]).collect();
+    let columns: Vec<u32> = (0..positions(m)).map(|k| words[COLUMNS * (k % m) + k / m]).collect();
     let mut off = 0;
     for (name, there, back, due) in [("to_rows", to_rows, to_columns, rows), ("to_columns", to_columns, to_rows, columns)] {
         let result = made(there, n, words);
@@ -45,9 +46,9 @@ fn try_words(side: &str, to_rows: Call, to_columns: Call, n: u32, words: &[u32])
 pub fn run() -> usize {
     let mut r = Random::new(3);
     let (mut sizes, mut off) = (0, 0);
-    for n in (1..=10).map(|k| 1 << k) {
+    for n in (1..).map(|k| 1 << k).take_while(|&n| n <= MOST_ROWS_LARGEST) {
         for _ in 0..TIMES {
-            let words = r.words(3 * n as usize);
+            let words = r.words(positions(n as usize));
             off += try_words("plain", transfers::to_rows, transfers::to_columns, n, &words);
             off += try_words("proved", proved_to_rows, proved_to_columns, n, &words);
         }

@@ -1,4 +1,5 @@
 // Both transforms, of every size of every prime and on both sides, against the definition: the values at the points, one by one.
+use crate::lengths;
 use crate::numbers::{field, points, PRIMES};
 use crate::polynomials::value;
 use crate::random::Random;
@@ -21,7 +22,7 @@ fn proved_interpolate(p: u32, n: u32, values: &[u32], coefficients: &mut [u32], 
 // The result of a call is the one due, and its scratch is zeros.
 fn expect(name: &str, call: Call, p: u32, n: u32, input: &[u32], due: &[u32]) -> usize {
     let mut result = vec![7; input.len()];
-    let mut scratch = vec![7; 16 * input.len()];
+    let mut scratch = vec![7; lengths::scratch(input.len())];
     let answer = call(p, n, input, &mut result, &mut scratch);
     if answer != [0, 0] || result != due || scratch.iter().any(|&x| x != 0) {
         println!("DIFFERENCE from the definition, {name}, p = {p}, n = {n}: answer {answer:?}, {input:?} gives {result:?}");
