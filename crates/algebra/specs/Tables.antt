@@ -11,17 +11,23 @@
 -- wrote-none, wrote-more, wrote-all         the loop: before, a turn, after
 -- unread                                    the word that a turn is about to write is still what it was
 --
+-- A loop that writes from the end down: where the words from i on are written, `FromOn f i o` says so of the slice o.
+-- FromOn f i o                              word k of o is f(k), for every k from i on
+-- from-none, from-more, from-all            the loop: before, a turn, after
+-- from-read                                 a word from i on, or past the end where f is 0
+--
 -- Assumes nothing.
-use mathlib.Core.Path.{_≡_, refl, ap, ap₂, _∙_}
+use mathlib.Core.Path.{_≡_, refl, sym, ap, ap₂, _∙_}
 use mathlib.Core.Logic.{_≢_}
 use mathlib.Core.List.{List, [], _∷_, _++_, append-nil}
 use mathlib.Core.Option.{Option, none, some, Option·map}
 use Prim.Native.Nat.{ℕ, zero, suc, _+_, _<_, _≤_}
 use native.Mathlib.Nat.{le-antisymm, zero-add, suc-add}
+use native.Mathlib.Decide.{decLt, ℕ-discrete}
 use native.Mathlib.Numerals.{add-one}
 use native.Mathlib.Omega.{arith}
-use lib.ListN.{length, getD, set, drop, replicate}
-use lib.Seq.{set-at, drop-cons, append-snoc, drop-length, getD-drop, getD-append-add}
+use lib.ListN.{length, getD, set, drop, replicate, length-set, List·getD-eq-default}
+use lib.Seq.{set-at, drop-cons, append-snoc, drop-length, getD-drop, getD-append-add, getD-set-same, getD-set-other, ext-getD}
 use Rattle.algebra.specs.Lists.{tab, gathered, All, Nodup}
 
 pub length-tab : (f : ℕ → ℕ) (n : ℕ) → length (tab f n) ≡ n
@@ -131,3 +137,30 @@ unread f i o₀ o e =
     ∙ getD-append-add (tab f i) (drop i o₀) 0 0
     ∙ getD-drop i o₀ 0 0
     ∙ ap (λ (n : ℕ). getD o₀ n 0) (omega arith)
+
+-- FROM THE END DOWN
+
+abbrev pub FromOn : (ℕ → ℕ) → ℕ → List ℕ → Type 0
+FromOn f i o = (k : ℕ) → i ≤ k → k < length o → getD o k 0 ≡ f k
+
+pub from-none : (f : ℕ → ℕ) (o : List ℕ) → FromOn f (length o) o
+from-none f o k h l = absurd (omega arith)
+
+pub from-more : (f : ℕ → ℕ) (i j v : ℕ) (o : List ℕ) → i ≡ suc j → j < length o → v ≡ f j → FromOn f i o → FromOn f j (set o j v)
+from-more f i j v o e h is was k l u = go (ℕ-discrete k j)
+  where
+    go : Dec (k ≡ j) → getD (set o j v) k 0 ≡ f k
+    go (yes w) = rw w (getD-set-same o j v 0 h ∙ is)
+    go (no w) = getD-set-other o j k v 0 w ∙ was k (omega arith) (omega (arith, length-set o j v))
+
+pub from-all : (f : ℕ → ℕ) (o : List ℕ) → FromOn f 0 o → o ≡ tab f (length o)
+from-all f o was =
+    ext-getD 0 o (tab f (length o)) (sym (length-tab f (length o)))
+    (λ k h. was k (omega arith) h ∙ sym (getD-tab f (length o) k h))
+
+pub from-read : (f : ℕ → ℕ) (i k : ℕ) (o : List ℕ) → i ≤ k → (length o ≤ k → f k ≡ 0) → FromOn f i o → getD o k 0 ≡ f k
+from-read f i k o h past was = go (decLt k (length o))
+  where
+    go : Dec (k < length o) → getD o k 0 ≡ f k
+    go (yes l) = was k h l
+    go (no l) = List·getD-eq-default o 0 (omega arith) ∙ sym (past (omega arith))
