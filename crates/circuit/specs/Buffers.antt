@@ -11,6 +11,7 @@
 -- selectorsLength, labelsLength, witnessLength   of the selectors, the labels and the witness
 -- preparedLength                        of a prepared circuit: its polynomials have n coefficients each
 -- wireLength, zLength, quotientLength   the coefficients of a wire, of z and of t
+-- fLength                               the coefficients of F, n more than t has: 4n - 3 (`f-long` of Parts)
 -- transcriptLength                      of a transcript: 7n - 3 (`transcript-long` of Parts)
 -- openingLength                         the coefficients of an opening polynomial, one less than t has: 3n - 4 (`opening-long` of Parts)
 -- PLACES
@@ -73,6 +74,9 @@ zLength n = n
 
 abbrev pub quotientLength : ℕ → ℕ
 quotientLength n = 3 * n - 3
+
+abbrev pub fLength : ℕ → ℕ
+fLength n = n + quotientLength n
 
 abbrev pub openingLength : ℕ → ℕ
 openingLength n = quotientLength n - 1

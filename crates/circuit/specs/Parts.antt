@@ -1,6 +1,7 @@
 -- The parts of a prepared circuit and of a transcript: they lie within their buffers, and have the lengths that are due.
 --
 -- transcript-long    a transcript has 7n - 3 numbers
+-- f-long             F has 4n - 3 coefficients
 -- opening-long       an opening polynomial has 3n - 4 coefficients
 -- prepared-room      each polynomial of a prepared circuit ends within it
 -- wire-room          the wire of a column below 3 ends where z starts, or before
@@ -15,10 +16,13 @@ use native.Mathlib.Omega.{arith}
 use lib.ListN.{length, drop, length-take, length-drop}
 use lib.Seq.{length-take-le}
 use Rattle.algebra.specs.Ends.{run-room}
-use Rattle.circuit.specs.Buffers.{preparedCount, preparedLength, transcriptLength, openingLength, wireLength, zLength, preparedStart, wireStart, zStart, tStart, preparedPart, wirePart, zPart}
+use Rattle.circuit.specs.Buffers.{preparedCount, preparedLength, fLength, transcriptLength, openingLength, wireLength, zLength, preparedStart, wireStart, zStart, tStart, preparedPart, wirePart, zPart}
 
 pub transcript-long : (n : ℕ) → 1 ≤ n → transcriptLength n ≡ 7 * n - 3
 transcript-long n h = omega arith
+
+pub f-long : (n : ℕ) → 1 ≤ n → fLength n ≡ 4 * n - 3
+f-long n h = omega arith
 
 pub opening-long : (n : ℕ) → openingLength n ≡ 3 * n - 4
 opening-long n = omega arith

@@ -1,7 +1,7 @@
 // How many numbers the lent buffers have for n rows, and where the polynomials start in them. (The scratch's length stands in `transform`.)
 ghost use mathlib.Core.Path.{_≡_};
 ghost use Prim.Native.Nat.{_<_};
-ghost use Rattle.circuit.specs.Buffers.{preparedCount, selectorsLength, labelsLength, witnessLength, preparedLength, wireLength, zLength, quotientLength, transcriptLength, openingLength, preparedStart, wireStart, zStart, tStart};
+ghost use Rattle.circuit.specs.Buffers.{preparedCount, selectorsLength, labelsLength, witnessLength, preparedLength, wireLength, zLength, quotientLength, fLength, transcriptLength, openingLength, preparedStart, wireStart, zStart, tStart};
 
 // The selectors of a row.
 pub const SELECTOR_COUNT: usize = 5;
@@ -77,6 +77,14 @@ pub fn quotient_length(n: usize) -> usize
         return 0;
     }
     3 * n - 3
+}
+
+// The coefficients of F: n more than t has.
+pub fn f_length(n: usize) -> usize
+    requires { ⌜ n < 4294967296 ⌝ }
+    ensures { λ r. ⌜ r ≡ fLength n ⌝ }
+{
+    n + quotient_length(n)
 }
 
 // The coefficients of an opening polynomial: one less than t has.

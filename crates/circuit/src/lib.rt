@@ -23,6 +23,7 @@ pub use lengths::POLYNOMIAL_COUNT;
 pub use lengths::PREPARED_COUNT;
 pub use lengths::SELECTOR_COUNT;
 pub use lengths::WIRED_NUMBER;
+pub use lengths::f_length;
 pub use lengths::labels_length;
 pub use lengths::opening_length;
 pub use lengths::prepared_length;

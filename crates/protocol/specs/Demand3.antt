@@ -151,7 +151,7 @@ module _ (q n : ℕ) (D : Domain (suc q) n) where
           zetas = λ pair alpha ha z ez none t et.
               at-most-of
               (few-zetas q n D C x wire z (pair .0) (pair .1) (λ c h. elements c h .long) (ez .long) alpha t (4 * n - 4)
-              (length-F-rows p n C x wire z (rows-positive q n D) (λ c h. elements c h .long) (ez .long) (pair .0) (pair .1) alpha)
+              (omega (arith, rows-positive q n D, length-F-rows p n C x wire z (rows-positive q n D) (λ c h. elements c h .long) (ez .long) (pair .0) (pair .1) alpha))
               (omega (arith, et .long, rows-positive q n D))
               (λ h. none record { alpha-element = ha; t = t; t-elements = et; t-holds = h }))
               (λ zeta h. (h .zeta-element, h .accepted))

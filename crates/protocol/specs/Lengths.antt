@@ -6,7 +6,7 @@
 -- short-gate, short-step, short-start   of the three parts of F
 -- short-F                            F has at most 3a + b + 1 coefficients, for wires of a + 1 and z of b + 1
 -- length-F                           F of constraints has at most 3a + b + 1 coefficients, for wires of a + 1 and z of b + 1
--- length-F-rows                      at most 4n - 3, for wires and z of the lengths that they have in a transcript
+-- length-F-rows                      at most as many as t has and n more, for wires and z of the lengths that they have in a transcript
 --
 -- The prepared polynomials, L and the polynomial of the public inputs have at most n = r + 1 coefficients, and the wires may have more.
 -- Assumes nothing.
@@ -23,7 +23,7 @@ use Rattle.field.specs.Fields.{root, multiplier}
 use Rattle.transform.specs.Transform.{interpolation}
 use Rattle.transform.specs.Interpolation.{interpolation-most}
 use Rattle.circuit.specs.Circuit.{Constraints}
-use Rattle.circuit.specs.Buffers.{preparedCount, wiredNumber, wireLength, zLength}
+use Rattle.circuit.specs.Buffers.{preparedCount, wiredNumber, wireLength, zLength, fLength}
 use Rattle.protocol.specs.Protocol.{fOf, _⊕_, polyN, polyD, polyL, gatePart, stepPart, startPart, polyF, preparedPoly}
 
 pub record Short (d : ℕ) (f : List ℕ) : Type 0 where
@@ -108,7 +108,7 @@ length-F p (suc r) a b C x wire z two more lw lz beta gamma alpha =
 
 pub length-F-rows : (p n : ℕ) (C : Constraints) (x : ℕ → ℕ) (wire : ℕ → List ℕ) (z : List ℕ) → 2 ≤ n
     → ((c : ℕ) → c < 3 → length (wire c) ≡ wireLength n) → length z ≡ zLength n
-    → (beta gamma alpha : ℕ) → length (fOf p n C x wire z beta gamma alpha) ≤ suc (4 * n - 4)
+    → (beta gamma alpha : ℕ) → length (fOf p n C x wire z beta gamma alpha) ≤ fLength n
 length-F-rows p n C x wire z two lw lz beta gamma alpha =
     omega (
       arith,

@@ -2,12 +2,13 @@
 --
 -- vanishing-same     t × (X^n - 1) sees t modulo p
 -- division-reduced   the reduced quotient of m coefficients, for a polynomial of at most n + m
--- quotient-holds     the quotient t of F, for an F of at most 4n - 3 coefficients
+-- quotient-holds     the quotient t of F, for an F of at most n coefficients more than t has
+-- quotient-sees      t sees F modulo p
 --
 -- Assumes nothing.
-use mathlib.Core.Path.{refl, sym, _∙_}
+use mathlib.Core.Path.{_≡_, refl, sym, ap, _∙_}
 use mathlib.Core.List.{List}
-use Prim.Native.Nat.{ℕ, suc, _+_, _*_, _-_, _≤_, _<_, pred}
+use Prim.Native.Nat.{ℕ, suc, _+_, _≤_, _<_, pred}
 use native.Mathlib.Omega.{arith}
 use lib.ListN.{length}
 use Rattle.algebra.specs.Lists.{tab}
@@ -15,12 +16,12 @@ use Rattle.algebra.specs.Polynomial.{eval, scaleP, shift, timesVanishing, quoti
 use Rattle.algebra.specs.Congruence.{Cong, cong}
 use Rattle.algebra.specs.Tables.{length-tab}
 use Rattle.algebra.specs.PolynomialLaws.{reduced-same}
-use Rattle.algebra.specs.Division.{length-quotient, division-exact}
+use Rattle.algebra.specs.Division.{length-quotient, quotient-reduced, division-exact}
 use Rattle.algebra.specs.Same.{same-add, same-scale, same-shift}
 use Rattle.field.specs.Fields.{point}
 use Rattle.field.specs.Domain.{Domain}
 use Rattle.transform.specs.Interpolation.{rows-positive}
-use Rattle.circuit.specs.Buffers.{quotientLength}
+use Rattle.circuit.specs.Buffers.{quotientLength, fLength}
 use Rattle.protocol.specs.Protocol.{quotient}
 use Rattle.protocol.specs.Domains.{points-distinct, zeros}
 
@@ -40,6 +41,12 @@ module _ (q n : ℕ) (D : Domain (suc q) n) (f : List ℕ) (zero-at : (i : ℕ) 
       division-exact n m f pos fits q (D .prime) (tab (point p n) n) (omega (arith, length-tab (point p n) n)) (points-distinct q n D) (zeros q n D f zero-at) k
       ∙ sym (vanishing-same p n (reduced p m t) t (reduced-same p m t (omega (arith, length-quotient n m f pos fits))) k)
 
-  pub quotient-holds : length f ≤ suc (4 * n - 4) → SameP (suc q) f (timesVanishing (suc q) n (quotient (suc q) n f))
+  pub quotient-holds : length f ≤ fLength n → SameP (suc q) f (timesVanishing (suc q) n (quotient (suc q) n f))
   unfolding quotient
-  quotient-holds fits = division-reduced (quotientLength n) (omega (arith, rows-positive q n D))
+  quotient-holds fits = division-reduced (quotientLength n) fits
+
+pub quotient-sees : (p n : ℕ) (f F : List ℕ) → 0 < n → length F ≤ fLength n → f ≡ reduced p (fLength n) F → quotient p n f ≡ quotient p n F
+unfolding quotient
+quotient-sees p n f F pos fits e =
+    ap (λ (g : List ℕ). reduced p (quotientLength n) (quotientVanishing n (quotientLength n) g)) e
+    ∙ quotient-reduced p n (quotientLength n) F pos fits
