@@ -49,7 +49,7 @@ pub fn fill_permutation(labels: &[u32], out: &mut [u32])
     requires { ⌜ Labels (now labels) × (length (now out) ≡ length (now labels)) ⌝ }
     ensures { λ _. ⌜ now (out .exit) ≡ tab (permutation (length (now (labels .entry))) (λ k. getD (now (labels .entry)) k 0)) (length (now (labels .entry))) ⌝ }
 {
-    let mut slots = field::blank_3072();
+    let mut slots = field::positions_room();
     lowest(labels, &mut slots);
     follow(labels, &mut slots, out);
 }

@@ -1,4 +1,5 @@
 -- Definitions, then theorems.
+pub mod Rooms
 pub mod Fields
 pub mod Reasons
 pub mod Inverses

@@ -1,7 +1,7 @@
 -- The parts that are lent fit into their buffers, and what the buffers are when they come back.
 --
 -- transcript-fits, spare-fits   a, b, c and z fit into the transcript, n words into the scratch
--- filling-fits, prepared-fits, room-fits, laid-fits   6n words into the scratch; the prepared circuit and the domain points into their arrays; a, b, c and z into the transcript
+-- filling-fits, prepared-fits, room-fits, laid-fits   F fits into the scratch; the prepared circuit and the domain points into their arrays; a, b, c and z into the transcript
 -- rest-long         the words behind a, b, c and z are as many as t has
 -- transcript-of     a, b, c and z with the quotient behind them are the prover's transcript
 --
@@ -9,17 +9,18 @@
 use mathlib.Core.Path.{_≡_, sym, ap, _∙_}
 use mathlib.Core.List.{List, _++_, append-assoc}
 use mathlib.Core.Option.{Option, none, some, Option·map, Option·some-injective, Option·none-ne-some}
-use Prim.Native.Nat.{ℕ, _*_, _-_, _≤_}
+use Prim.Native.Nat.{ℕ, _-_, _≤_}
 use native.Mathlib.Omega.{arith}
 use lib.ListN.{length, getD, take, drop, length-take, length-drop, length-append}
 use lib.Seq.{take-at}
 use Rattle.algebra.specs.Polynomial.{coef}
+use Rattle.field.specs.Rooms.{rowsRoom, preparedRoom}
 use Rattle.field.specs.Primes.{rows-power}
 use Rattle.field.specs.Domain.{Domain}
 use Rattle.transform.specs.Transform.{interpolation}
 use Rattle.transform.specs.Interpolation.{interpolation-elements}
 use Rattle.circuit.specs.Circuit.{Constraints, position, lentConstraints, lentPublic, lentWitness}
-use Rattle.circuit.specs.Buffers.{preparedLength, zLength, quotientLength, transcriptLength, tStart}
+use Rattle.circuit.specs.Buffers.{preparedLength, zLength, quotientLength, fLength, transcriptLength, tStart}
 use Rattle.protocol.specs.Protocol.{quotient, zRows, wiresOf, tOf, transcript}
 use Rattle.laying.specs.Rows.{laidRows}
 use Rattle.prover.specs.Promises.{provedFrom}
@@ -33,13 +34,13 @@ module _ {p n : ℕ} {labels witness transcript challenges scratch : List ℕ} (
   spare-fits = omega (arith, F .scratch-long)
 
 module _ {p n : ℕ} {selectors labels publics challenges scratch : List ℕ} (R : Ready p n selectors labels publics challenges scratch) where
-  pub filling-fits : 6 * n ≤ length scratch
+  pub filling-fits : fLength n ≤ length scratch
   filling-fits = omega (arith, R .scratch-long)
 
-  pub prepared-fits : (l : List ℕ) → 8192 ≡ length l → preparedLength n ≤ length l
+  pub prepared-fits : (l : List ℕ) → preparedRoom ≡ length l → preparedLength n ≤ length l
   prepared-fits l e = omega (arith, rows-power p n (R .admissible .rows) .small)
 
-  pub room-fits : (l : List ℕ) → 1024 ≡ length l → n ≤ length l
+  pub room-fits : (l : List ℕ) → rowsRoom ≡ length l → n ≤ length l
   room-fits l e = omega (arith, rows-power p n (R .admissible .rows) .small)
 
   pub laid-fits : (transcript : List ℕ) → length transcript ≡ transcriptLength n → tStart n ≤ length transcript

@@ -4,19 +4,19 @@
 ghost use mathlib.Core.Path.{_≡_};
 ghost use mathlib.Core.List.{List, _++_};
 ghost use mathlib.Core.Option.{some, Option·map};
-ghost use Prim.Native.Nat.{ℕ, _*_};
+ghost use Prim.Native.Nat.{ℕ};
 ghost use lib.ListN.{length, getD, take, drop, replicate};
 ghost use Rattle.algebra.specs.Polynomial.{reduced};
 ghost use Rattle.transform.specs.Transform.{scratchLength};
 ghost use Rattle.circuit.specs.Circuit.{lentConstraints, lentWitness};
-ghost use Rattle.circuit.specs.Buffers.{transcriptLength, tStart};
+ghost use Rattle.circuit.specs.Buffers.{fLength, transcriptLength, tStart};
 ghost use Rattle.protocol.specs.Protocol.{quotient};
 ghost use Rattle.laying.specs.Rows.{laidRows};
 ghost use Rattle.prover.specs.Promises.{provedFrom, Proves};
 ghost use Rattle.prover.specs.Buffers.{lentF, Ready, Front, Checked};
 use field::Answer;
 
-// F in the first 6n words of the scratch, from a, b, c and z as they are laid. The prepared circuit stands in an array of its own.
+// F at the start of the scratch, from a, b, c and z as they are laid. The prepared circuit stands in an array of its own.
 fn fill_f(
     p: u32,
     n: u32,
@@ -28,12 +28,12 @@ fn fill_f(
     scratch: &mut [u32],
 )
     requires { ⌜ Ready p n (now selectors) (now labels) (now publics) (now challenges) (now scratch) × (length (now laid) ≡ tStart n) ⌝ }
-    ensures { λ _. ⌜ take (6 * n) (now (scratch .exit)) ≡ reduced p (6 * n) (lentF p n (now (selectors .entry)) (now (labels .entry)) (now (publics .entry)) (now (laid .entry)) (now (challenges .entry))) ⌝ }
+    ensures { λ _. ⌜ take (fLength n) (now (scratch .exit)) ≡ reduced p (fLength n) (lentF p n (now (selectors .entry)) (now (labels .entry)) (now (publics .entry)) (now (laid .entry)) (now (challenges .entry))) ⌝ }
 {
     let m = n as usize;
     let k = circuit::prepared_length(m);
-    let end = 6 * m;
-    let mut prepared = field::blank_8192();
+    let end = circuit::f_length(m);
+    let mut prepared = field::prepared_room();
     let powers = field::domain_points(p, n);
     preparing::work(p, n, selectors, labels, &mut prepared[..k], scratch);
     quotients::fill(
@@ -66,7 +66,7 @@ fn lay_t(
 {
     let m = n as usize;
     let at = circuit::t_start(m);
-    let end = 6 * m;
+    let end = circuit::f_length(m);
     fill_f(
         p,
         n,

@@ -2,8 +2,8 @@
 //
 // The functions for the layers above, which have checked their numbers, are `fill` and `divide`.
 ghost use mathlib.Core.Path.{_≡_};
-ghost use Prim.Native.Nat.{_*_};
 ghost use Rattle.algebra.specs.Polynomial.{reduced};
+ghost use Rattle.circuit.specs.Buffers.{fLength};
 ghost use Rattle.circuit.specs.Circuit.{lentPublic};
 ghost use Rattle.protocol.specs.Protocol.{pointF};
 ghost use Rattle.quotients.specs.Buffers.{Fillable};
@@ -11,7 +11,6 @@ ghost use Rattle.quotients.specs.Buffers.{Fillable};
 mod division;
 mod gates;
 mod start;
-mod sums;
 
 pub use division::divide;
 
@@ -29,7 +28,7 @@ pub fn fill(
     out: &mut [u32],
 )
     requires { ⌜ Fillable p n (now powers) (now publics) (now prepared) (now laid) (now out) ⌝ }
-    ensures { λ _. ⌜ now (out .exit) ≡ reduced p (6 * n) (pointF p n (now (prepared .entry)) (lentPublic (now (publics .entry))) (now (laid .entry)) beta gamma alpha) ⌝ }
+    ensures { λ _. ⌜ now (out .exit) ≡ reduced p (fLength n) (pointF p n (now (prepared .entry)) (lentPublic (now (publics .entry))) (now (laid .entry)) beta gamma alpha) ⌝ }
 {
     transform::slices::clear(out);
     gates::add_public_gate(p, n, publics, prepared, laid, out);

@@ -1,44 +1,45 @@
 -- `prover::fill_f` meets its contract: the circuit is prepared in an array, and F is made from it. Assumes nothing.
 use mathlib.Core.Path.{sym, ap, _∙_}
 use mathlib.Core.List.{List, _++_}
-use Prim.Native.Nat.{ℕ, _*_, _≤_}
+use Prim.Native.Nat.{ℕ, _≤_}
 use native.Mathlib.Omega.{arith}
-use lib.ListN.{length, getD, drop}
+use lib.ListN.{length, getD, take, drop}
 use lib.Seq.{take-at, length-take-le}
 use borrow.Author.Needs.{needs}
 use Rattle.algebra.specs.Ends.{front-fits, front-is}
 use Rattle.algebra.specs.Polynomial.{reduced}
 use Rattle.circuit.specs.Circuit.{lentPublic}
+use Rattle.circuit.specs.Buffers.{fLength}
 use Rattle.protocol.specs.Protocol.{pointF}
 use Rattle.prover.proofs.Fits.{filling-fits, prepared-fits, room-fits}
 use Rattle.prover.proofs.fill_f.Statement.{statement}
 use Rattle.prover.proofs.fill_f.Tie as tie
 
-abbrev start : tie.After-prepared-length → tie.Start
-start c = c .before .before .before .before .before .before .before
+abbrev start : tie.After-f-length → tie.Start
+start c = c .before .before .before .before .before .before .before .before
 
 -- the arrays have room, and the one that is written still has
-prepared-fit : (c : tie.After-blank-8192) → c .before .prepared-length .result ≤ length (c .blank-8192 .result)
-prepared-fit c = omega (arith, c .before .prepared-length .ensures, prepared-fits (start (c .before) .pre .0) (c .blank-8192 .result) (c .blank-8192 .ensures))
+prepared-fit : (c : tie.After-prepared-room) → c .before .before .prepared-length .result ≤ length (c .prepared-room .result)
+prepared-fit c = omega (arith, c .before .before .prepared-length .ensures, prepared-fits (start (c .before) .pre .0) (c .prepared-room .result) (c .prepared-room .ensures))
 
 powers-fit : (c : tie.After-domain-points) → start (c .before .before) .args .n ≤ length (c .domain-points .result)
 powers-fit c = room-fits (start (c .before .before) .pre .0) (c .domain-points .result) (c .domain-points .ensures .0)
 
-still-fit : (c : tie.After-work) → c .before .before .before .before .before .prepared-length .result ≤ length (c .work .last .1 .1 .1 .1 .0 ++ drop (c .before .before .before .before .before .prepared-length .result) (c .before .before .before .before .blank-8192 .result))
-still-fit c = front-fits (c .before .before .before .before .before .prepared-length .result) (c .before .before .before .before .blank-8192 .result) (c .work .last .1 .1 .1 .1 .0) (prepared-fit (c .before .before .before .before)) (c .work .kept .1 .1 .1 .1 .0)
+still-fit : (c : tie.After-work) → c .before .before .before .before .before .before .prepared-length .result ≤ length (c .work .last .1 .1 .1 .1 .0 ++ drop (c .before .before .before .before .before .before .prepared-length .result) (c .before .before .before .before .prepared-room .result))
+still-fit c = front-fits (c .before .before .before .before .before .before .prepared-length .result) (c .before .before .before .before .prepared-room .result) (c .work .last .1 .1 .1 .1 .0) (prepared-fit (c .before .before .before .before)) (c .work .kept .1 .1 .1 .1 .0)
 
 -- F has room in the scratch
-scratch-fit : (c : tie.After-work) → 6 * start (c .before .before .before .before .before) .args .n ≤ length (c .work .last .1 .1 .1 .1 .1 .0)
-scratch-fit c = omega (arith, c .work .kept .1 .1 .1 .1 .1 .0, filling-fits (start (c .before .before .before .before .before) .pre .0))
+scratch-fit : (c : tie.After-work) → c .before .before .before .before .before .f-length .result ≤ length (c .work .last .1 .1 .1 .1 .1 .0)
+scratch-fit c = omega (arith, c .work .kept .1 .1 .1 .1 .1 .0, c .before .before .before .before .before .f-length .ensures, filling-fits (start (c .before .before .before .before .before) .pre .0))
 
 prepared-length-requires : tie.Need-prepared-length-requires
 prepared-length-requires c κs = search needs
 
-mul-end : tie.Need-mul-end
-mul-end c = search needs
+f-length-requires : tie.Need-f-length-requires
+f-length-requires c κs = search needs
 
-blank-8192-requires : tie.Need-blank-8192-requires
-blank-8192-requires c κs = search needs
+prepared-room-requires : tie.Need-prepared-room-requires
+prepared-room-requires c κs = search needs
 
 domain-points-requires : tie.Need-domain-points-requires
 domain-points-requires c κs = search needs
@@ -56,7 +57,7 @@ work-requires c κs =
       admissible = R .admissible;
       elements = R .elements;
       labelled = R .labelled;
-      written-length = length-take-le _ _ (prepared-fit (c .before .before .before)) ∙ c .before .before .before .before .prepared-length .ensures;
+      written-length = length-take-le _ _ (prepared-fit (c .before .before .before)) ∙ c .before .before .before .before .before .prepared-length .ensures;
       scratch-length = R .scratch-long;
     }
 
@@ -89,13 +90,14 @@ slice-aggregate-fill-3 c = sym (length-take-le _ _ (scratch-fit (c .before .befo
 
 fill-requires : tie.Need-fill-requires
 fill-requires c κs =
-    let s = start (c .before .before .before .before .before .before .before .before .before .before .before .before .before .before) in
+    let k = c .before .before .before .before .before .before .before .before .before .before .before .before .before .before in
+    let s = start k in
     record {
       points = record { admissible = s .pre .0 .admissible; points = c .before .before .before .before .before .before .before .before .before .before .before .before .domain-points .ensures .1 };
       publics-lent = record { admissible = s .pre .0 .admissible; elements = s .pre .0 .publics-below };
-      prepared-length = length-take-le _ _ (still-fit (c .before .before .before .before .before .before .before .before .before)) ∙ c .before .before .before .before .before .before .before .before .before .before .before .before .before .before .prepared-length .ensures;
+      prepared-length = length-take-le _ _ (still-fit (c .before .before .before .before .before .before .before .before .before)) ∙ k .before .prepared-length .ensures;
       laid-length = s .pre .1;
-      out-length = length-take-le _ _ (scratch-fit (c .before .before .before .before .before .before .before .before .before));
+      out-length = length-take-le _ _ (scratch-fit (c .before .before .before .before .before .before .before .before .before)) ∙ k .f-length .ensures;
     }
 
 same-length : tie.Need-same-length
@@ -103,13 +105,17 @@ same-length c = search needs
 
 returns : tie.Need-returns
 returns c =
-    let a = start (c .before .before .before .before .before .before .before .before .before .before .before .before .before .before .before .before .before) .args in
+    let k = c .before .before .before .before .before .before .before .before .before .before .before .before .before .before .before .before .before in
+    let a = start k .args in
     let f = c .before .before .fill in
     let w = c .before .before .before .before .before .before .before .before .before .before .before .before .work in
     let d = a .challenges .now in
-    take-at (f .last .1 .1 .1 .1 .1 .1 .1 .1 .1 .0) _ (6 * a .n) (f .kept .1 .1 .1 .1 .1 .1 .1 .1 .1 .0 ∙ length-take-le _ _ (scratch-fit (c .before .before .before .before .before .before .before .before .before .before .before .before)))
+    let rest = drop (k .f-length .result) (w .last .1 .1 .1 .1 .1 .0) in
+    let laid = f .last .1 .1 .1 .1 .1 .1 .1 .1 .1 .0 in
+    ap (λ (i : ℕ). take i (laid ++ rest)) (sym (k .f-length .ensures))
+    ∙ take-at laid rest (k .f-length .result) (f .kept .1 .1 .1 .1 .1 .1 .1 .1 .1 .0 ∙ length-take-le _ _ (scratch-fit (c .before .before .before .before .before .before .before .before .before .before .before .before)))
     ∙ f .ensures
-    ∙ ap (λ (pre : List ℕ). reduced (a .p) (6 * a .n) (pointF (a .p) (a .n) pre (lentPublic (a .publics .now)) (a .laid .now) (getD d 0 0) (getD d 1 0) (getD d 2 0)))
+    ∙ ap (λ (pre : List ℕ). reduced (a .p) (fLength (a .n)) (pointF (a .p) (a .n) pre (lentPublic (a .publics .now)) (a .laid .now) (getD d 0 0) (getD d 1 0) (getD d 2 0)))
     (front-is _ _ _ (prepared-fit (c .before .before .before .before .before .before .before .before .before .before .before .before .before .before .before .before)) (w .kept .1 .1 .1 .1 .0) ∙ w .ensures .0)
 
 pub fill-f-spec : {M : Type 1} → statement M
@@ -117,8 +123,8 @@ fill-f-spec =
     tie.close
     (tie.spec
     prepared-length-requires
-    mul-end
-    blank-8192-requires
+    f-length-requires
+    prepared-room-requires
     domain-points-requires
     array-borrow-prefix-prepared
     slice-aggregate-work

@@ -1,10 +1,11 @@
 -- `quotients::fill` meets its contract: the three parts of F are added to zeros. Assumes nothing.
 use mathlib.Core.Path.{ap, _∙_}
-use Prim.Native.Nat.{ℕ, _*_}
+use Prim.Native.Nat.{ℕ}
 use native.Mathlib.Omega.{arith}
 use lib.ListN.{replicate}
 use borrow.Author.Needs.{needs}
 use Rattle.field.specs.Primes.{field-prime, rows-power}
+use Rattle.circuit.specs.Buffers.{fLength}
 use Rattle.protocol.specs.Protocol.{polyF}
 use Rattle.quotients.proofs.SumLaws.{from-zeros, then}
 use Rattle.quotients.proofs.fill.Statement.{statement}
@@ -20,6 +21,7 @@ add-public-gate-requires c κs =
       s .publics-lent,
       record {
         modulus = omega (arith, field-prime _ (A .one-of-three) .two);
+        least = rows-power _ _ (A .rows) .least;
         few = rows-power _ _ (A .rows) .small;
         prepared-length = s .prepared-length;
         laid-length = s .laid-length;
@@ -40,7 +42,7 @@ returns : tie.Need-returns
 unfolding polyF
 returns c =
     let s = c .before .before .before .before .before .before .before .before .before .before .before .before .before .before .before .before .before .before .before .before .before in
-    from-zeros (6 * s .args .n)
+    from-zeros (fLength (s .args .n))
     (c .before .before .before .before .before .before .before .before .before .before .before .before .before .before .clear .ensures ∙ ap (λ (m : ℕ). replicate m 0) (s .pre .out-length))
     (then (then (c .before .before .before .before .before .before .before .before .before .before .add-public-gate .ensures) record { sum = c .before .before .before .before .before .before .add-step .ensures }) (c .before .before .add-start .ensures))
 

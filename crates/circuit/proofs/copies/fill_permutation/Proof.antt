@@ -4,14 +4,14 @@ use borrow.Author.Needs.{needs}
 use Rattle.circuit.proofs.copies.fill_permutation.Statement.{statement}
 use Rattle.circuit.proofs.copies.fill_permutation.Tie as tie
 
-blank-3072-requires : tie.Need-blank-3072-requires
-blank-3072-requires c κs = search needs
+positions-room-requires : tie.Need-positions-room-requires
+positions-room-requires c κs = search needs
 
 slice-aggregate-lowest : tie.Need-slice-aggregate-lowest
 slice-aggregate-lowest c = search needs
 
 lowest-requires : tie.Need-lowest-requires
-lowest-requires c κs = let start = c .before .before .before .before in (start .pre .0, omega (arith, start .pre .0 .few, c .before .blank-3072 .ensures))
+lowest-requires c κs = let start = c .before .before .before .before in (start .pre .0, omega (arith, start .pre .0 .few, c .before .positions-room .ensures))
 
 slice-aggregate-follow : tie.Need-slice-aggregate-follow
 slice-aggregate-follow c = search needs
@@ -20,7 +20,7 @@ follow-requires : tie.Need-follow-requires
 follow-requires c κs =
     let start = c .before .before .before .before .before .before .before .before in
     let slots = c .before .before .before .lowest in
-    ((start .pre .0, omega (arith, start .pre .0 .few, slots .kept .1 .0, c .before .before .before .before .before .blank-3072 .ensures), start .pre .1), slots .ensures)
+    ((start .pre .0, omega (arith, start .pre .0 .few, slots .kept .1 .0, c .before .before .before .before .before .positions-room .ensures), start .pre .1), slots .ensures)
 
 same-length : tie.Need-same-length
 same-length c = search needs
@@ -32,7 +32,7 @@ pub fill-permutation-spec : {M : Type 1} → statement M
 fill-permutation-spec =
     tie.close
     (tie.spec
-    blank-3072-requires
+    positions-room-requires
     slice-aggregate-lowest
     lowest-requires
     slice-aggregate-follow
