@@ -1,4 +1,5 @@
 -- Definitions, then theorems.
+pub mod Rooms
 pub mod Printed
 pub mod Lines
 pub mod Work

@@ -14,11 +14,11 @@ ghost use Rattle.archive.specs.Printed.{textLength, workText};
 ghost use Rattle.archive.specs.Work.{Workable};
 use field::Answer;
 
-mod blanks;
 mod lines;
+mod rooms;
 mod work;
 
-pub use blanks::text_room;
+pub use rooms::text_room;
 
 // The answer of `deposit`: how many bytes of the buffer are text; 0 if refused.
 pub struct Deposited {
@@ -65,11 +65,11 @@ fn print_current(sheet: &[u8], text: &mut [u8]) -> usize
     requires { ⌜ (length (now text) ≡ textLength) × (isCurrent (sheetP (now sheet)) ≡ true) ⌝ }
     ensures { λ r. ⌜ Puts 0 (depositText (now (sheet .entry))) (now (text .entry)) r (now (text .exit)) ⌝ }
 {
-    let mut selectors = blanks::blank_selectors();
-    let mut labels = blanks::blank_positions();
-    let mut witness = blanks::blank_positions();
-    let mut publics = blanks::blank_publics();
-    let mut challenges = blanks::blank_challenges();
+    let mut selectors = rooms::selectors_room();
+    let mut labels = rooms::positions_room();
+    let mut witness = rooms::positions_room();
+    let mut publics = rooms::publics_room();
+    let mut challenges = rooms::challenges_room();
     let found = sheet::read(
         sheet,
         &mut selectors,

@@ -11,9 +11,9 @@ ghost use Rattle.pointcheck.specs.Promises.{judgedAt};
 ghost use Rattle.text.specs.Puts.{Puts};
 ghost use Rattle.archive.specs.Printed.{textLength, workText};
 ghost use Rattle.archive.specs.Work.{Lays, Judgeable, Checkable, Workable, judgedFrom, checkedText};
-use crate::blanks;
 use crate::lines::put_judged;
 use crate::lines::put_transcript;
+use crate::rooms;
 use field::Answer;
 use pointcheck::Judged;
 use text::put_refused;
@@ -36,7 +36,7 @@ fn lay(
     let m = n as usize;
     let end = transform::scratch_length(m);
     let three = 3;
-    let mut scratch = blanks::blank_4096();
+    let mut scratch = rooms::scratch_room();
     prover::prove(
         p,
         n,
@@ -58,7 +58,7 @@ fn prepare(p: u32, n: u32, l: u32, selectors: &[u32], labels: &[u32], prepared: 
 {
     let m = n as usize;
     let end = transform::scratch_length(m);
-    let mut scratch = blanks::blank_4096();
+    let mut scratch = rooms::scratch_room();
     preparing::prepare(p, n, l, selectors, labels, prepared, &mut scratch[..end]);
 }
 
@@ -77,7 +77,7 @@ fn check(
 {
     let m = n as usize;
     let end = transform::scratch_length(m);
-    let mut scratch = blanks::blank_4096();
+    let mut scratch = rooms::scratch_room();
     let answer = pointcheck::check_point(
         p,
         n,
@@ -107,7 +107,7 @@ fn judge(
 {
     let m = n as usize;
     let end = circuit::prepared_length(m);
-    let mut prepared = field::blank_2048();
+    let mut prepared = rooms::prepared_room();
     prepare(p, n, l, selectors, labels, &mut prepared[..end]);
     check(p, n, l, publics, &prepared[..end], transcript, challenges)
 }
@@ -150,7 +150,7 @@ pub fn print_work(
 {
     let m = n as usize;
     let end = circuit::transcript_length(m);
-    let mut transcript = field::blank_2048();
+    let mut transcript = rooms::transcript_room();
     let answer = lay(
         p,
         n,

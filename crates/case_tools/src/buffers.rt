@@ -10,6 +10,13 @@ pub fn short() -> [u32; 2048]
     [0; 2048]
 }
 
+// Room for the selectors, a prepared circuit or a transcript.
+pub fn middle() -> [u32; 8192]
+    ensures { λ r. ⌜ 8192 ≡ length r ⌝ }
+{
+    [0; 8192]
+}
+
 // Room for a scratch.
 pub fn long() -> [u32; 32768]
     ensures { λ r. ⌜ 32768 ≡ length r ⌝ }

@@ -145,7 +145,7 @@ fn print_proved(
     publics: &[u32],
     challenges: &[u32],
 ) {
-    let mut transcript = field::blank_8192();
+    let mut transcript = buffers::middle();
     let mut scratch = buffers::long();
     let a = buffers::within(&transcript, generate::transcript_length(n));
     let b = buffers::within(&scratch, 16 * (n as usize));

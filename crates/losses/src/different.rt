@@ -60,8 +60,8 @@ pub fn count_different(numbers: &[u32]) -> u32
     ensures { λ r. ⌜ r ≡ different (now (numbers .entry)) ⌝ }
 {
     let m = numbers.len();
-    let mut buckets = field::blank_3072();
-    let mut next = field::blank_3072();
+    let mut buckets = field::positions_room();
+    let mut next = field::positions_room();
     fill_buckets(numbers, &mut buckets[..m]);
     circuit::fill_permutation(&buckets[..m], &mut next[..m]);
     count_last(numbers, &next[..m])

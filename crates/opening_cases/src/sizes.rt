@@ -85,7 +85,7 @@ pub fn every_polynomial<'a>(p: u32, n: u32, prepared: &'a [u32], transcript: &'a
 {
     let list = [12, 11, 10, 9, 8, 7, 6, 5, 4, 3, 2, 1, 0];
     let mut evaluations = [0u32; 13];
-    let mut opening = field::blank_3072();
+    let mut opening = field::product_room();
     let mut scratch = buffers::long();
     let a = buffers::within(&opening, 3 * (n as usize) - 4);
     let b = buffers::within(&scratch, 16 * (n as usize));
@@ -106,8 +106,8 @@ pub fn every_polynomial<'a>(p: u32, n: u32, prepared: &'a [u32], transcript: &'a
 fn size(p: u32, n: u32)
     requires { ⌜ (1 ≤ p) × (2 ≤ n) ⌝ }
 {
-    let mut prepared = field::blank_8192();
-    let mut transcript = field::blank_8192();
+    let mut prepared = buffers::middle();
+    let mut transcript = buffers::middle();
     buffers::fill(p, &mut prepared);
     buffers::fill(p - 1, &mut transcript);
     let a = buffers::within(&prepared, 8 * (n as usize));

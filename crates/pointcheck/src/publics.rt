@@ -14,7 +14,7 @@ pub fn public_at(p: u32, n: u32, publics: &[u32], x: u32, scratch: &mut [u32]) -
     ensures { λ r. ⌜ r ≡ eval (interpolation p n (lentPublic (now (publics .entry)))) x % p ⌝ }
 {
     let m = n as usize;
-    let mut xs = field::blank_1024();
+    let mut xs = field::rows_room();
     circuit::public_polynomial(p, n, publics, &mut xs[..m], &mut scratch[..m]);
     transform::slices::horner(p, &xs[..m], x)
 }

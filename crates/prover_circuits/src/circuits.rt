@@ -21,7 +21,7 @@ fn meets_zero(
     publics: &[u32],
     challenges: &[u32],
 ) -> bool {
-    let mut transcript = field::blank_8192();
+    let mut transcript = buffers::middle();
     let mut scratch = buffers::long();
     let a = buffers::within(&transcript, generate::transcript_length(n));
     let b = buffers::within(&scratch, 16 * (n as usize));
@@ -117,7 +117,7 @@ fn attempt(
     number: u32,
     detail: u32,
 ) -> [u32; 8192] {
-    let mut transcript = field::blank_8192();
+    let mut transcript = buffers::middle();
     let mut scratch = buffers::long();
     let a = buffers::within(&transcript, generate::transcript_length(n));
     let b = buffers::within(&scratch, 16 * (n as usize));

@@ -120,8 +120,8 @@ fn fill_public_rows(n: u32, l: u32, selectors: &mut [u32]) {
 }
 
 // Labels below `variables` for n rows. The last position shares the first one's label.
-pub fn labels(n: u32, variables: u32) -> [u32; 3072] {
-    let mut xs = field::blank_3072();
+pub fn labels(n: u32, variables: u32) -> [u32; field::POSITIONS_ROOM] {
+    let mut xs = field::positions_room();
     fill(variables, n, &mut xs);
     let first = at(&xs, 0);
     buffers::put(&mut xs, last_position(n), first);
@@ -129,8 +129,8 @@ pub fn labels(n: u32, variables: u32) -> [u32; 3072] {
 }
 
 // Values that give each variable its own, by position: column a stands first.
-pub fn values(p: u32, n: u32, labels: &[u32]) -> [u32; 3072] {
-    let mut xs = field::blank_3072();
+pub fn values(p: u32, n: u32, labels: &[u32]) -> [u32; field::POSITIONS_ROOM] {
+    let mut xs = field::positions_room();
     fill_values(p, n, labels, &mut xs);
     xs
 }
@@ -138,7 +138,7 @@ pub fn values(p: u32, n: u32, labels: &[u32]) -> [u32; 3072] {
 // Selectors whose gates the contents satisfy, with l public rows, whose public inputs are the contents of column a. The last qO is -1 where its row
 // is no public row.
 pub fn selectors(p: u32, n: u32, l: u32, witness: &[u32]) -> [u32; 8192] {
-    let mut xs = field::blank_8192();
+    let mut xs = buffers::middle();
     fill(p, next(next(n)), &mut xs);
     buffers::put(&mut xs, last_position(n), minus(p, 0, 1));
     fill_constants(p, n, &mut xs, witness);
@@ -156,7 +156,7 @@ fn fill_raised(p: u32, place: usize, xs: &[u32], out: &mut [u32]) {
 
 // A buffer with one word raised by one modulo p.
 pub fn raised(p: u32, place: usize, xs: &[u32]) -> [u32; 8192] {
-    let mut out = field::blank_8192();
+    let mut out = buffers::middle();
     fill_raised(p, place, xs, &mut out);
     out
 }

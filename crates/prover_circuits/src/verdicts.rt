@@ -136,8 +136,8 @@ fn print_verdict(v: Verdict) {
 }
 
 // z on the rows, from its polynomial in the transcript.
-fn z_rows(p: u32, n: u32, transcript: &[u32]) -> [u32; 1024] {
-    let mut z = field::blank_1024();
+fn z_rows(p: u32, n: u32, transcript: &[u32]) -> [u32; field::ROWS_ROOM] {
+    let mut z = field::rows_room();
     let mut scratch = buffers::long();
     let start = 3 * (n as usize);
     let end = 4 * (n as usize);
@@ -177,7 +177,7 @@ pub fn print_rows(
 
 // The prepared circuit.
 pub fn prepared_of(p: u32, n: u32, l: u32, selectors: &[u32], labels: &[u32]) -> [u32; 8192] {
-    let mut prepared = field::blank_8192();
+    let mut prepared = buffers::middle();
     let mut scratch = buffers::long();
     let a = buffers::within(&prepared, 8 * (n as usize));
     let b = buffers::within(&scratch, 16 * (n as usize));

@@ -95,8 +95,8 @@ fn refused() {
 }
 
 // Contents that stand column after column, row by row, with zeros behind.
-pub fn rows_of(n: u32, columns: &[u32]) -> [u32; 3072] {
-    let mut xs = field::blank_3072();
+pub fn rows_of(n: u32, columns: &[u32]) -> [u32; field::POSITIONS_ROOM] {
+    let mut xs = field::positions_room();
     let a = buffers::within(columns, 3 * (n as usize));
     let b = buffers::within(&xs, 3 * (n as usize));
     transfer::to_rows(n, &columns[..a], &mut xs[..b]);
@@ -104,8 +104,8 @@ pub fn rows_of(n: u32, columns: &[u32]) -> [u32; 3072] {
 }
 
 // The way back.
-fn columns_of(n: u32, rows: &[u32]) -> [u32; 3072] {
-    let mut xs = field::blank_3072();
+fn columns_of(n: u32, rows: &[u32]) -> [u32; field::POSITIONS_ROOM] {
+    let mut xs = field::positions_room();
     let a = buffers::within(rows, 3 * (n as usize));
     let b = buffers::within(&xs, 3 * (n as usize));
     transfer::to_columns(n, &rows[..a], &mut xs[..b]);
@@ -131,7 +131,7 @@ fn round(label: &[u8], n: u32, before: &[u32], between: &[u32], after: &[u32]) {
 
 // Both orders, on numbers that look random.
 fn rounds(n: u32) {
-    let mut before = field::blank_3072();
+    let mut before = field::positions_room();
     buffers::fill(2013265921, &mut before);
     let rows = rows_of(n, &before);
     let columns = columns_of(n, &before);

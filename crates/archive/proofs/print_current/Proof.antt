@@ -20,46 +20,46 @@ abbrev start : tie.After-read → tie.Start
 start c = c .before .before .before .before .before .before .before .before .before .before .before .before .before
 
 -- the arrays have the lengths that are due
-arrays : (c : tie.After-read) → Arrays (c .before .before .before .before .before .before .before .before .before .before .blank-selectors .result) (c .before .before .before .before .before .before .before .before .before .blank-positions .result) (c .before .before .before .before .before .before .before .before .blank-positions2 .result) (c .before .before .before .before .before .before .before .blank-publics .result) (c .before .before .before .before .before .before .blank-challenges .result)
+arrays : (c : tie.After-read) → Arrays (c .before .before .before .before .before .before .before .before .before .before .selectors-room .result) (c .before .before .before .before .before .before .before .before .before .positions-room .result) (c .before .before .before .before .before .before .before .before .positions-room2 .result) (c .before .before .before .before .before .before .before .publics-room .result) (c .before .before .before .before .before .before .challenges-room .result)
 arrays c =
     record {
-      selectors-long = c .before .before .before .before .before .before .before .before .before .before .blank-selectors .ensures;
-      labels-long = c .before .before .before .before .before .before .before .before .before .blank-positions .ensures;
-      witness-long = c .before .before .before .before .before .before .before .before .blank-positions2 .ensures;
-      publics-long = c .before .before .before .before .before .before .before .blank-publics .ensures;
-      challenges-long = c .before .before .before .before .before .before .blank-challenges .ensures;
+      selectors-long = c .before .before .before .before .before .before .before .before .before .before .selectors-room .ensures;
+      labels-long = c .before .before .before .before .before .before .before .before .before .positions-room .ensures;
+      witness-long = c .before .before .before .before .before .before .before .before .positions-room2 .ensures;
+      publics-long = c .before .before .before .before .before .before .before .publics-room .ensures;
+      challenges-long = c .before .before .before .before .before .before .challenges-room .ensures;
     }
 
 workable : (c : tie.After-read) → c .read .result .answer .number ≡ 0 → Workable (c .read .result .p) (c .read .result .n) (c .read .last .1 .1 .1 .1 .1 .0) (start c .args .text .now)
-workable c e = sheet-workable (start c .args .sheet .now) (c .before .before .before .before .before .before .before .before .before .before .blank-selectors .result) (c .before .before .before .before .before .before .before .before .before .blank-positions .result) (c .before .before .before .before .before .before .before .before .blank-positions2 .result) (c .before .before .before .before .before .before .before .blank-publics .result) (c .before .before .before .before .before .before .blank-challenges .result) (c .read .result) (c .read .last .1 .0) (c .read .last .1 .1 .0) (c .read .last .1 .1 .1 .0) (c .read .last .1 .1 .1 .1 .0) (c .read .last .1 .1 .1 .1 .1 .0) (c .read .ensures) (arrays c) (start c .pre .1) e (start c .args .text .now) (start c .pre .0)
+workable c e = sheet-workable (start c .args .sheet .now) (c .before .before .before .before .before .before .before .before .before .before .selectors-room .result) (c .before .before .before .before .before .before .before .before .before .positions-room .result) (c .before .before .before .before .before .before .before .before .positions-room2 .result) (c .before .before .before .before .before .before .before .publics-room .result) (c .before .before .before .before .before .before .challenges-room .result) (c .read .result) (c .read .last .1 .0) (c .read .last .1 .1 .0) (c .read .last .1 .1 .1 .0) (c .read .last .1 .1 .1 .1 .0) (c .read .last .1 .1 .1 .1 .1 .0) (c .read .ensures) (arrays c) (start c .pre .1) e (start c .args .text .now) (start c .pre .0)
 
 -- n and l are small, so that the arrays have room
 few : (c : tie.After-read) → c .read .result .answer .number ≡ 0 → (c .read .result .n ≤ 256) × (c .read .result .l ≤ 256)
-few c e = (rows-few (start c .args .sheet .now) (c .before .before .before .before .before .before .before .before .before .before .blank-selectors .result) (c .before .before .before .before .before .before .before .before .before .blank-positions .result) (c .before .before .before .before .before .before .before .before .blank-positions2 .result) (c .before .before .before .before .before .before .before .blank-publics .result) (c .before .before .before .before .before .before .blank-challenges .result) (c .read .result) (c .read .last .1 .0) (c .read .last .1 .1 .0) (c .read .last .1 .1 .1 .0) (c .read .last .1 .1 .1 .1 .0) (c .read .last .1 .1 .1 .1 .1 .0) (c .read .ensures) (arrays c) (start c .pre .1) e, publics-few (start c .args .sheet .now) (c .before .before .before .before .before .before .before .before .before .before .blank-selectors .result) (c .before .before .before .before .before .before .before .before .before .blank-positions .result) (c .before .before .before .before .before .before .before .before .blank-positions2 .result) (c .before .before .before .before .before .before .before .blank-publics .result) (c .before .before .before .before .before .before .blank-challenges .result) (c .read .result) (c .read .last .1 .0) (c .read .last .1 .1 .0) (c .read .last .1 .1 .1 .0) (c .read .last .1 .1 .1 .1 .0) (c .read .last .1 .1 .1 .1 .1 .0) (c .read .ensures) (arrays c) (start c .pre .1) e)
+few c e = (rows-few (start c .args .sheet .now) (c .before .before .before .before .before .before .before .before .before .before .selectors-room .result) (c .before .before .before .before .before .before .before .before .before .positions-room .result) (c .before .before .before .before .before .before .before .before .positions-room2 .result) (c .before .before .before .before .before .before .before .publics-room .result) (c .before .before .before .before .before .before .challenges-room .result) (c .read .result) (c .read .last .1 .0) (c .read .last .1 .1 .0) (c .read .last .1 .1 .1 .0) (c .read .last .1 .1 .1 .1 .0) (c .read .last .1 .1 .1 .1 .1 .0) (c .read .ensures) (arrays c) (start c .pre .1) e, publics-few (start c .args .sheet .now) (c .before .before .before .before .before .before .before .before .before .before .selectors-room .result) (c .before .before .before .before .before .before .before .before .before .positions-room .result) (c .before .before .before .before .before .before .before .before .positions-room2 .result) (c .before .before .before .before .before .before .before .publics-room .result) (c .before .before .before .before .before .before .challenges-room .result) (c .read .result) (c .read .last .1 .0) (c .read .last .1 .1 .0) (c .read .last .1 .1 .1 .0) (c .read .last .1 .1 .1 .1 .0) (c .read .last .1 .1 .1 .1 .1 .0) (c .read .ensures) (arrays c) (start c .pre .1) e)
 
 text-read : (c : tie.After-read) → c .read .result .answer .number ≡ 0
     → workText (c .read .result .p) (c .read .result .n) (c .read .result .l) (take (selectorsLength (c .read .result .n)) (c .read .last .1 .0)) (take (labelsLength (c .read .result .n)) (c .read .last .1 .1 .0)) (take (witnessLength (c .read .result .n)) (c .read .last .1 .1 .1 .0)) (take (c .read .result .l) (c .read .last .1 .1 .1 .1 .0)) (c .read .last .1 .1 .1 .1 .1 .0)
     ≡ depositText (start c .args .sheet .now)
-text-read c e = sheet-text (start c .args .sheet .now) (c .before .before .before .before .before .before .before .before .before .before .blank-selectors .result) (c .before .before .before .before .before .before .before .before .before .blank-positions .result) (c .before .before .before .before .before .before .before .before .blank-positions2 .result) (c .before .before .before .before .before .before .before .blank-publics .result) (c .before .before .before .before .before .before .blank-challenges .result) (c .read .result) (c .read .last .1 .0) (c .read .last .1 .1 .0) (c .read .last .1 .1 .1 .0) (c .read .last .1 .1 .1 .1 .0) (c .read .last .1 .1 .1 .1 .1 .0) (c .read .ensures) (arrays c) (start c .pre .1) e
+text-read c e = sheet-text (start c .args .sheet .now) (c .before .before .before .before .before .before .before .before .before .before .selectors-room .result) (c .before .before .before .before .before .before .before .before .before .positions-room .result) (c .before .before .before .before .before .before .before .before .positions-room2 .result) (c .before .before .before .before .before .before .before .publics-room .result) (c .before .before .before .before .before .before .challenges-room .result) (c .read .result) (c .read .last .1 .0) (c .read .last .1 .1 .0) (c .read .last .1 .1 .1 .0) (c .read .last .1 .1 .1 .1 .0) (c .read .last .1 .1 .1 .1 .1 .0) (c .read .ensures) (arrays c) (start c .pre .1) e
 
 text-unread : (c : tie.After-read) → c .read .result .answer .number ≢ 0
     → refusedText (c .read .result .answer .number) (c .read .result .answer .detail) ≡ depositText (start c .args .sheet .now)
-text-unread c h = unread-text (start c .args .sheet .now) (c .before .before .before .before .before .before .before .before .before .before .blank-selectors .result) (c .before .before .before .before .before .before .before .before .before .blank-positions .result) (c .before .before .before .before .before .before .before .before .blank-positions2 .result) (c .before .before .before .before .before .before .before .blank-publics .result) (c .before .before .before .before .before .before .blank-challenges .result) (c .read .result) (c .read .last .1 .0) (c .read .last .1 .1 .0) (c .read .last .1 .1 .1 .0) (c .read .last .1 .1 .1 .1 .0) (c .read .last .1 .1 .1 .1 .1 .0) (c .read .ensures) (arrays c) (start c .pre .1) h
+text-unread c h = unread-text (start c .args .sheet .now) (c .before .before .before .before .before .before .before .before .before .before .selectors-room .result) (c .before .before .before .before .before .before .before .before .before .positions-room .result) (c .before .before .before .before .before .before .before .before .positions-room2 .result) (c .before .before .before .before .before .before .before .publics-room .result) (c .before .before .before .before .before .before .challenges-room .result) (c .read .result) (c .read .last .1 .0) (c .read .last .1 .1 .0) (c .read .last .1 .1 .1 .0) (c .read .last .1 .1 .1 .1 .0) (c .read .last .1 .1 .1 .1 .1 .0) (c .read .ensures) (arrays c) (start c .pre .1) h
 
-blank-selectors-requires : tie.Need-blank-selectors-requires
-blank-selectors-requires c κs = search needs
+selectors-room-requires : tie.Need-selectors-room-requires
+selectors-room-requires c κs = search needs
 
-blank-positions-requires : tie.Need-blank-positions-requires
-blank-positions-requires c κs = search needs
+positions-room-requires : tie.Need-positions-room-requires
+positions-room-requires c κs = search needs
 
-blank-positions-requires-2 : tie.Need-blank-positions-requires-2
-blank-positions-requires-2 c κs = search needs
+positions-room-requires-2 : tie.Need-positions-room-requires-2
+positions-room-requires-2 c κs = search needs
 
-blank-publics-requires : tie.Need-blank-publics-requires
-blank-publics-requires c κs = search needs
+publics-room-requires : tie.Need-publics-room-requires
+publics-room-requires c κs = search needs
 
-blank-challenges-requires : tie.Need-blank-challenges-requires
-blank-challenges-requires c κs = search needs
+challenges-room-requires : tie.Need-challenges-room-requires
+challenges-room-requires c κs = search needs
 
 slice-aggregate-read : tie.Need-slice-aggregate-read
 slice-aggregate-read c = search needs
@@ -135,11 +135,11 @@ pub print-current-spec : {M : Type 1} → statement M
 print-current-spec =
     tie.close
     (tie.spec
-    blank-selectors-requires
-    blank-positions-requires
-    blank-positions-requires-2
-    blank-publics-requires
-    blank-challenges-requires
+    selectors-room-requires
+    positions-room-requires
+    positions-room-requires-2
+    publics-room-requires
+    challenges-room-requires
     slice-aggregate-read
     slice-aggregate-read-2
     slice-aggregate-read-3

@@ -18,26 +18,26 @@ abbrev start : tie.After-prepared-length → tie.Start
 start c = c .before .before .before .before .before .before
 
 -- the array has room, and still has when it is written
-fits : (c : tie.After-blank-2048) → c .before .prepared-length .result ≤ length (c .blank-2048 .result)
-fits c = omega (arith, c .blank-2048 .ensures, c .before .prepared-length .ensures, start (c .before) .pre .few)
+fits : (c : tie.After-prepared-room) → c .before .prepared-length .result ≤ length (c .prepared-room .result)
+fits c = omega (arith, c .prepared-room .ensures, c .before .prepared-length .ensures, start (c .before) .pre .few)
 
 abbrev after : tie.After-prepare → List ℕ
-after c = c .prepare .last .1 .1 .1 .1 .1 .0 ++ drop (c .before .before .before .prepared-length .result) (c .before .before .blank-2048 .result)
+after c = c .prepare .last .1 .1 .1 .1 .1 .0 ++ drop (c .before .before .before .prepared-length .result) (c .before .before .prepared-room .result)
 
 still-fits : (c : tie.After-prepare) → c .before .before .before .prepared-length .result ≤ length (after c)
-still-fits c = front-fits (c .before .before .before .prepared-length .result) (c .before .before .blank-2048 .result) (c .prepare .last .1 .1 .1 .1 .1 .0) (fits (c .before .before)) (c .prepare .kept .1 .1 .1 .1 .1 .0)
+still-fits c = front-fits (c .before .before .before .prepared-length .result) (c .before .before .prepared-room .result) (c .prepare .last .1 .1 .1 .1 .1 .0) (fits (c .before .before)) (c .prepare .kept .1 .1 .1 .1 .1 .0)
 
 -- what is written is the prepared circuit
 written : (c : tie.After-prepare)
     → take (c .before .before .before .prepared-length .result) (after c)
     ≡ prepared (start (c .before .before .before) .args .p) (start (c .before .before .before) .args .n) (lentConstraints (start (c .before .before .before) .args .n) (start (c .before .before .before) .args .selectors .now) (start (c .before .before .before) .args .labels .now))
-written c = front-is (c .before .before .before .prepared-length .result) (c .before .before .blank-2048 .result) (c .prepare .last .1 .1 .1 .1 .1 .0) (fits (c .before .before)) (c .prepare .kept .1 .1 .1 .1 .1 .0) ∙ c .prepare .ensures
+written c = front-is (c .before .before .before .prepared-length .result) (c .before .before .prepared-room .result) (c .prepare .last .1 .1 .1 .1 .1 .0) (fits (c .before .before)) (c .prepare .kept .1 .1 .1 .1 .1 .0) ∙ c .prepare .ensures
 
 prepared-length-requires : tie.Need-prepared-length-requires
 prepared-length-requires c κs = search needs
 
-blank-2048-requires : tie.Need-blank-2048-requires
-blank-2048-requires c κs = search needs
+prepared-room-requires : tie.Need-prepared-room-requires
+prepared-room-requires c κs = search needs
 
 array-borrow-prefix-prepared : tie.Need-array-borrow-prefix-prepared
 array-borrow-prefix-prepared c = search needs
@@ -72,7 +72,7 @@ judge-spec =
     tie.close
     (tie.spec
     prepared-length-requires
-    blank-2048-requires
+    prepared-room-requires
     array-borrow-prefix-prepared
     slice-aggregate-prepare
     prepare-requires

@@ -10,14 +10,14 @@ use Rattle.archive.proofs.work.lay.Statement.{statement}
 use Rattle.archive.proofs.work.lay.Tie as tie
 
 -- the scratch has room
-fits : (c : tie.After-blank-4096) → c .before .scratch-length .result ≤ length (c .blank-4096 .result)
-fits c = omega (arith, c .blank-4096 .ensures, c .before .scratch-length .ensures, c .before .before .before .before .before .before .before .before .pre .0)
+fits : (c : tie.After-scratch-room) → c .before .scratch-length .result ≤ length (c .scratch-room .result)
+fits c = omega (arith, c .scratch-room .ensures, c .before .scratch-length .ensures, c .before .before .before .before .before .before .before .before .pre .0)
 
 scratch-length-requires : tie.Need-scratch-length-requires
 scratch-length-requires c κs = search needs
 
-blank-4096-requires : tie.Need-blank-4096-requires
-blank-4096-requires c κs = search needs
+scratch-room-requires : tie.Need-scratch-room-requires
+scratch-room-requires c κs = search needs
 
 slice-aggregate-prove : tie.Need-slice-aggregate-prove
 slice-aggregate-prove c = sym (length-take-le 3 (c .before .before .before .before .before .before .before .before .before .before .args .challenges .now) (c .before .before .before .before .before .before .before .before .before .before .pre .1))
@@ -48,7 +48,7 @@ lay-spec =
     tie.close
     (tie.spec
     scratch-length-requires
-    blank-4096-requires
+    scratch-room-requires
     slice-aggregate-prove
     array-borrow-prefix-scratch
     slice-aggregate-prove-2

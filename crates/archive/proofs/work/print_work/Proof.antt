@@ -23,15 +23,15 @@ abbrev call : tie.After-lay → tie.Start
 call c = start (c .before .before .before)
 
 -- the array has room, and still has when it is written
-fits : (c : tie.After-blank-2048) → c .before .transcript-length .result ≤ length (c .blank-2048 .result)
-fits c = omega (arith, c .blank-2048 .ensures, c .before .transcript-length .ensures, start (c .before) .pre .few)
+fits : (c : tie.After-transcript-room) → c .before .transcript-length .result ≤ length (c .transcript-room .result)
+fits c = omega (arith, c .transcript-room .ensures, c .before .transcript-length .ensures, start (c .before) .pre .few)
 
 -- the array after the prover, and the part of it that is lent on
 abbrev after : tie.After-lay → List ℕ
-after c = c .lay .last .1 .1 .1 .1 .1 .1 .1 .0 ++ drop (c .before .before .before .transcript-length .result) (c .before .before .blank-2048 .result)
+after c = c .lay .last .1 .1 .1 .1 .1 .1 .1 .0 ++ drop (c .before .before .before .transcript-length .result) (c .before .before .transcript-room .result)
 
 still-fits : (c : tie.After-lay) → c .before .before .before .transcript-length .result ≤ length (after c)
-still-fits c = front-fits (c .before .before .before .transcript-length .result) (c .before .before .blank-2048 .result) (c .lay .last .1 .1 .1 .1 .1 .1 .1 .0) (fits (c .before .before)) (c .lay .kept .1 .1 .1 .1 .1 .1 .1 .0)
+still-fits c = front-fits (c .before .before .before .transcript-length .result) (c .before .before .transcript-room .result) (c .lay .last .1 .1 .1 .1 .1 .1 .1 .0) (fits (c .before .before)) (c .lay .kept .1 .1 .1 .1 .1 .1 .1 .0)
 
 -- the part that is lent on is what the prover laid
 abbrev lent : tie.After-lay → List ℕ
@@ -43,7 +43,7 @@ is-laid c e =
     let a = call c .args in
     laid-of (a .p) (a .n) (a .l) (a .selectors .now) (a .labels .now) (a .witness .now) (a .publics .now) (a .challenges .now) _ _ _ (c .lay .ensures) e
     ∙ ap {B = Option (List ℕ)} some
-    (sym (front-is (c .before .before .before .transcript-length .result) (c .before .before .blank-2048 .result) (c .lay .last .1 .1 .1 .1 .1 .1 .1 .0) (fits (c .before .before)) (c .lay .kept .1 .1 .1 .1 .1 .1 .1 .0)))
+    (sym (front-is (c .before .before .before .transcript-length .result) (c .before .before .transcript-room .result) (c .lay .last .1 .1 .1 .1 .1 .1 .1 .0) (fits (c .before .before)) (c .lay .kept .1 .1 .1 .1 .1 .1 .1 .0)))
 
 taken : (c : tie.After-lay) → c .lay .result .number ≡ 0
     → workAnswer (call c .args .p) (call c .args .n) (call c .args .l) (call c .args .selectors .now) (call c .args .labels .now) (call c .args .witness .now) (call c .args .publics .now) (call c .args .challenges .now) .number ≡ 0
@@ -52,8 +52,8 @@ taken c e = ap (λ r. r .number) (sym (c .lay .ensures .answer)) ∙ e
 transcript-length-requires : tie.Need-transcript-length-requires
 transcript-length-requires c κs = search needs
 
-blank-2048-requires : tie.Need-blank-2048-requires
-blank-2048-requires c κs = search needs
+transcript-room-requires : tie.Need-transcript-room-requires
+transcript-room-requires c κs = search needs
 
 array-borrow-prefix-transcript : tie.Need-array-borrow-prefix-transcript
 array-borrow-prefix-transcript c = search needs
@@ -112,7 +112,7 @@ print-work-spec =
     tie.close
     (tie.spec
     transcript-length-requires
-    blank-2048-requires
+    transcript-room-requires
     array-borrow-prefix-transcript
     slice-aggregate-lay
     lay-requires

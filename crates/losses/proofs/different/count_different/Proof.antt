@@ -14,29 +14,29 @@ use Rattle.losses.proofs.different.count_different.Statement.{statement
 use Rattle.losses.proofs.different.count_different.Tie as tie
 
 -- the numbers, and room for as many in both arrays
-abbrev numbers : tie.After-blank-30722 → List ℕ
+abbrev numbers : tie.After-positions-room2 → List ℕ
 numbers c = c .before .before .before .args .numbers .now
 
-first-fits : (c : tie.After-blank-30722) → length (numbers c) ≤ length (c .before .blank-3072 .result)
-first-fits c = omega (arith, c .before .before .before .pre, c .before .blank-3072 .ensures)
+first-fits : (c : tie.After-positions-room2) → length (numbers c) ≤ length (c .before .positions-room .result)
+first-fits c = omega (arith, c .before .before .before .pre, c .before .positions-room .ensures)
 
-second-fits : (c : tie.After-blank-30722) → length (numbers c) ≤ length (c .blank-30722 .result)
-second-fits c = omega (arith, c .before .before .before .pre, c .blank-30722 .ensures)
+second-fits : (c : tie.After-positions-room2) → length (numbers c) ≤ length (c .positions-room2 .result)
+second-fits c = omega (arith, c .before .before .before .pre, c .positions-room2 .ensures)
 
 -- the array with the buckets at its front, which are labels
-abbrev outset : tie.After-fill-buckets → tie.After-blank-30722
+abbrev outset : tie.After-fill-buckets → tie.After-positions-room2
 outset c = c .before .before
 
 abbrev labels : tie.After-fill-buckets → List ℕ
-labels c = take (length (numbers (outset c))) (c .fill-buckets .last .1 .0 ++ drop (length (numbers (outset c))) (outset c .before .blank-3072 .result))
+labels c = take (length (numbers (outset c))) (c .fill-buckets .last .1 .0 ++ drop (length (numbers (outset c))) (outset c .before .positions-room .result))
 
 labels-fit : (c : tie.After-fill-buckets)
-    → length (numbers (outset c)) ≤ length (c .fill-buckets .last .1 .0 ++ drop (length (numbers (outset c))) (outset c .before .blank-3072 .result))
-labels-fit c = front-fits (length (numbers (outset c))) (outset c .before .blank-3072 .result) (c .fill-buckets .last .1 .0) (first-fits (outset c)) (c .fill-buckets .kept .1 .0)
+    → length (numbers (outset c)) ≤ length (c .fill-buckets .last .1 .0 ++ drop (length (numbers (outset c))) (outset c .before .positions-room .result))
+labels-fit c = front-fits (length (numbers (outset c))) (outset c .before .positions-room .result) (c .fill-buckets .last .1 .0) (first-fits (outset c)) (c .fill-buckets .kept .1 .0)
 
 labels-are : (c : tie.After-fill-buckets) → labels c ≡ bucketsOf (numbers (outset c))
 labels-are c =
-    front-is (length (numbers (outset c))) (outset c .before .blank-3072 .result) (c .fill-buckets .last .1 .0) (first-fits (outset c)) (c .fill-buckets .kept .1 .0)
+    front-is (length (numbers (outset c))) (outset c .before .positions-room .result) (c .fill-buckets .last .1 .0) (first-fits (outset c)) (c .fill-buckets .kept .1 .0)
     ∙ c .fill-buckets .ensures
 
 -- the array with the links at its front
@@ -45,25 +45,25 @@ filled c = c .before .before .before .before
 
 abbrev links : tie.After-fill-permutation → List ℕ
 links c =
-    take (length (numbers (outset (filled c)))) (c .fill-permutation .last .1 .0 ++ drop (length (numbers (outset (filled c)))) (outset (filled c) .blank-30722 .result))
+    take (length (numbers (outset (filled c)))) (c .fill-permutation .last .1 .0 ++ drop (length (numbers (outset (filled c)))) (outset (filled c) .positions-room2 .result))
 
 links-fit : (c : tie.After-fill-permutation)
     → length (numbers (outset (filled c)))
-    ≤ length (c .fill-permutation .last .1 .0 ++ drop (length (numbers (outset (filled c)))) (outset (filled c) .blank-30722 .result))
+    ≤ length (c .fill-permutation .last .1 .0 ++ drop (length (numbers (outset (filled c)))) (outset (filled c) .positions-room2 .result))
 links-fit c =
-    front-fits (length (numbers (outset (filled c)))) (outset (filled c) .blank-30722 .result) (c .fill-permutation .last .1 .0) (second-fits (outset (filled c))) (c .fill-permutation .kept .1 .0)
+    front-fits (length (numbers (outset (filled c)))) (outset (filled c) .positions-room2 .result) (c .fill-permutation .last .1 .0) (second-fits (outset (filled c))) (c .fill-permutation .kept .1 .0)
 
 links-are : (c : tie.After-fill-permutation) → Linked (numbers (outset (filled c))) (links c)
 links-are c =
     linked (numbers (outset (filled c))) (labels (filled c)) (links c) (outset (filled c) .before .before .before .pre) (labels-are (filled c))
-    (front-is (length (numbers (outset (filled c)))) (outset (filled c) .blank-30722 .result) (c .fill-permutation .last .1 .0) (second-fits (outset (filled c))) (c .fill-permutation .kept .1 .0)
+    (front-is (length (numbers (outset (filled c)))) (outset (filled c) .positions-room2 .result) (c .fill-permutation .last .1 .0) (second-fits (outset (filled c))) (c .fill-permutation .kept .1 .0)
     ∙ c .fill-permutation .ensures)
 
-blank-3072-requires : tie.Need-blank-3072-requires
-blank-3072-requires c κs = search needs
+positions-room-requires : tie.Need-positions-room-requires
+positions-room-requires c κs = search needs
 
-blank-3072-requires-2 : tie.Need-blank-3072-requires-2
-blank-3072-requires-2 c κs = search needs
+positions-room-requires-2 : tie.Need-positions-room-requires-2
+positions-room-requires-2 c κs = search needs
 
 array-borrow-prefix-buckets : tie.Need-array-borrow-prefix-buckets
 array-borrow-prefix-buckets c = first-fits c
@@ -109,8 +109,8 @@ pub count-different-spec : {M : Type 1} → statement M
 count-different-spec =
     tie.close
     (tie.spec
-    blank-3072-requires
-    blank-3072-requires-2
+    positions-room-requires
+    positions-room-requires-2
     array-borrow-prefix-buckets
     slice-aggregate-fill-buckets
     fill-buckets-requires

@@ -13,15 +13,15 @@ use Rattle.pointcheck.proofs.publics.public_at.Statement.{statement}
 use Rattle.pointcheck.proofs.publics.public_at.Tie as tie
 
 -- the array has room for n words, and still has when they are written
-fits : (c : tie.After-blank-1024) → c .before .before .before .args .n ≤ length (c .blank-1024 .result)
-fits c = omega (arith, rows-power _ _ (c .before .before .before .pre .0 .admissible .rows) .small, c .blank-1024 .ensures)
+fits : (c : tie.After-rows-room) → c .before .before .before .args .n ≤ length (c .rows-room .result)
+fits c = omega (arith, rows-power _ _ (c .before .before .before .pre .0 .admissible .rows) .small, c .rows-room .ensures)
 
-fits-still : (c : tie.After-public-polynomial) → c .before .before .before .before .before .before .args .n ≤ length (c .public-polynomial .last .1 .1 .1 .0 ++ drop (c .before .before .before .before .before .before .args .n) (c .before .before .before .blank-1024 .result))
+fits-still : (c : tie.After-public-polynomial) → c .before .before .before .before .before .before .args .n ≤ length (c .public-polynomial .last .1 .1 .1 .0 ++ drop (c .before .before .before .before .before .before .args .n) (c .before .before .before .rows-room .result))
 fits-still c =
-    omega (arith, length-front (c .before .before .before .blank-1024 .result) (c .public-polynomial .last .1 .1 .1 .0) (c .before .before .before .before .before .before .args .n) (c .public-polynomial .kept .1 .1 .1 .0), fits (c .before .before .before))
+    omega (arith, length-front (c .before .before .before .rows-room .result) (c .public-polynomial .last .1 .1 .1 .0) (c .before .before .before .before .before .before .args .n) (c .public-polynomial .kept .1 .1 .1 .0), fits (c .before .before .before))
 
-blank-1024-requires : tie.Need-blank-1024-requires
-blank-1024-requires c κs = search needs
+rows-room-requires : tie.Need-rows-room-requires
+rows-room-requires c κs = search needs
 
 array-borrow-prefix-xs : tie.Need-array-borrow-prefix-xs
 array-borrow-prefix-xs c = fits c
@@ -62,7 +62,7 @@ pub public-at-spec : {M : Type 1} → statement M
 public-at-spec =
     tie.close
     (tie.spec
-    blank-1024-requires
+    rows-room-requires
     array-borrow-prefix-xs
     slice-aggregate-public-polynomial
     slice-relend-prefix-public-polynomial

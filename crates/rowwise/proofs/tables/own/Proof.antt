@@ -16,14 +16,14 @@ use Rattle.rowwise.proofs.tables.own.Tie as tie
 powers-fit : (c : tie.After-domain-points) → c .before .before .args .n ≤ length (c .domain-points .result)
 powers-fit c = omega (arith, rows-power _ _ (c .before .before .pre .rows) .small, c .domain-points .ensures .0)
 
-tags-fit : (c : tie.After-domain-points) → 3 * c .before .before .args .n ≤ length (c .before .blank-3072 .result)
-tags-fit c = omega (arith, rows-power _ _ (c .before .before .pre .rows) .small, c .before .blank-3072 .ensures)
+tags-fit : (c : tie.After-domain-points) → 3 * c .before .before .args .n ≤ length (c .before .positions-room .result)
+tags-fit c = omega (arith, rows-power _ _ (c .before .before .pre .rows) .small, c .before .positions-room .ensures)
 
-tags-long : (c : tie.After-domain-points) → length (take (3 * c .before .before .args .n) (c .before .blank-3072 .result)) ≡ 3 * c .before .before .args .n
+tags-long : (c : tie.After-domain-points) → length (take (3 * c .before .before .args .n) (c .before .positions-room .result)) ≡ 3 * c .before .before .args .n
 tags-long c = length-take-le _ _ (tags-fit c)
 
-blank-3072-requires : tie.Need-blank-3072-requires
-blank-3072-requires c κs = search needs
+positions-room-requires : tie.Need-positions-room-requires
+positions-room-requires c κs = search needs
 
 domain-points-requires : tie.Need-domain-points-requires
 domain-points-requires c κs = search needs
@@ -55,7 +55,7 @@ returns c =
     let written = c .before .own-tags in
     let d = c .before .before .before .before in
     let a = d .before .before .args in
-    let blank = d .before .blank-3072 .result in
+    let blank = d .before .positions-room .result in
     let front = written .last .1 .1 .1 .0 in (
       front-fits (3 * a .n) blank front (tags-fit d) (written .kept .1 .1 .1 .0),
       front-is (3 * a .n) blank front (tags-fit d) (written .kept .1 .1 .1 .0) ∙ written .ensures ∙ ap (tab (tag (a .p) (a .n))) (tags-long d),
@@ -65,7 +65,7 @@ pub own-spec : {M : Type 1} → statement M
 own-spec =
     tie.close
     (tie.spec
-    blank-3072-requires
+    positions-room-requires
     domain-points-requires
     mul-k
     array-share-prefix-powers

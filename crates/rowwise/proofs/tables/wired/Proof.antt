@@ -14,11 +14,11 @@ use Rattle.rowwise.proofs.tables.wired.Tie as tie
 powers-fit : (c : tie.After-domain-points) → c .before .before .before .args .n ≤ length (c .domain-points .result)
 powers-fit c = omega (arith, rows-power _ _ (c .before .before .before .pre .0 .rows) .small, c .domain-points .ensures .0)
 
-tags-fit : (c : tie.After-domain-points) → 3 * c .before .before .before .args .n ≤ length (c .before .blank-3072 .result)
-tags-fit c = omega (arith, rows-power _ _ (c .before .before .before .pre .0 .rows) .small, c .before .blank-3072 .ensures)
+tags-fit : (c : tie.After-domain-points) → 3 * c .before .before .before .args .n ≤ length (c .before .positions-room .result)
+tags-fit c = omega (arith, rows-power _ _ (c .before .before .before .pre .0 .rows) .small, c .before .positions-room .ensures)
 
-blank-3072-requires : tie.Need-blank-3072-requires
-blank-3072-requires c κs = search needs
+positions-room-requires : tie.Need-positions-room-requires
+positions-room-requires c κs = search needs
 
 domain-points-requires : tie.Need-domain-points-requires
 domain-points-requires c κs = search needs
@@ -49,7 +49,7 @@ returns c =
     let written = c .before .wired-tags in
     let d = c .before .before .before .before in
     let n = d .before .before .before .args .n in
-    let blank = d .before .blank-3072 .result in
+    let blank = d .before .positions-room .result in
     let front = written .last .1 .1 .1 .1 .0 in (
       front-fits (3 * n) blank front (tags-fit d) (written .kept .1 .1 .1 .1 .0),
       front-is (3 * n) blank front (tags-fit d) (written .kept .1 .1 .1 .1 .0) ∙ written .ensures,
@@ -59,7 +59,7 @@ pub wired-spec : {M : Type 1} → statement M
 wired-spec =
     tie.close
     (tie.spec
-    blank-3072-requires
+    positions-room-requires
     domain-points-requires
     mul-k
     array-share-prefix-powers

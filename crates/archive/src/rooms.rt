@@ -1,8 +1,9 @@
 // Arrays with room for the greatest sheet. What they hold does not matter.
 ghost use mathlib.Core.Path.{_≡_};
 ghost use lib.ListN.{length};
-ghost use Rattle.circuit.specs.Buffers.{selectorsLength, labelsLength};
+ghost use Rattle.circuit.specs.Buffers.{selectorsLength, labelsLength, preparedLength};
 ghost use Rattle.sheet.specs.Sheet.{sheetRows, challengeCount};
+ghost use Rattle.archive.specs.Rooms.{scratchRoom, transcriptRoom};
 
 // The rows of the greatest sheet.
 const ROWS: usize = sheet::ROWS as usize;
@@ -13,39 +14,61 @@ const SELECTORS: usize = circuit::SELECTOR_COUNT * ROWS;
 // Its positions: three columns of rows.
 const POSITIONS: usize = 3 * ROWS;
 
+// Its prepared circuit.
+const PREPARED: usize = circuit::PREPARED_COUNT * ROWS;
+
+// The scratch and the transcript, those of a blinded transcript too (document 02, request 9).
+const SCRATCH: usize = 16 * ROWS + 64;
+
+const TRANSCRIPT: usize = 7 * ROWS + 15;
+
 // The selectors.
-pub fn blank_selectors() -> [u32; SELECTORS]
+pub fn selectors_room() -> [u32; SELECTORS]
     ensures { λ r. ⌜ selectorsLength sheetRows ≡ length r ⌝ }
 {
     [0; SELECTORS]
 }
 
 // The labels, or the witness.
-pub fn blank_positions() -> [u32; POSITIONS]
+pub fn positions_room() -> [u32; POSITIONS]
     ensures { λ r. ⌜ labelsLength sheetRows ≡ length r ⌝ }
 {
     [0; POSITIONS]
 }
 
 // The public inputs.
-pub fn blank_publics() -> [u32; ROWS]
+pub fn publics_room() -> [u32; ROWS]
     ensures { λ r. ⌜ sheetRows ≡ length r ⌝ }
 {
     [0; ROWS]
 }
 
 // The challenges.
-pub fn blank_challenges() -> [u32; sheet::CHALLENGE_COUNT]
+pub fn challenges_room() -> [u32; sheet::CHALLENGE_COUNT]
     ensures { λ r. ⌜ challengeCount ≡ length r ⌝ }
 {
     [0; sheet::CHALLENGE_COUNT]
 }
 
 // A scratch.
-pub fn blank_4096() -> [u32; 4096]
-    ensures { λ r. ⌜ 4096 ≡ length r ⌝ }
+pub fn scratch_room() -> [u32; SCRATCH]
+    ensures { λ r. ⌜ scratchRoom ≡ length r ⌝ }
 {
-    [0; 4096]
+    [0; SCRATCH]
+}
+
+// A prepared circuit.
+pub fn prepared_room() -> [u32; PREPARED]
+    ensures { λ r. ⌜ preparedLength sheetRows ≡ length r ⌝ }
+{
+    [0; PREPARED]
+}
+
+// A transcript.
+pub fn transcript_room() -> [u32; TRANSCRIPT]
+    ensures { λ r. ⌜ transcriptRoom ≡ length r ⌝ }
+{
+    [0; TRANSCRIPT]
 }
 
 // The length of the buffer that the text is printed into.
