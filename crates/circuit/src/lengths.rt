@@ -1,6 +1,8 @@
 // How many numbers the lent buffers have for n rows, and where the polynomials start in them. (The scratch's length stands in `transform`.)
 ghost use mathlib.Core.Path.{_≡_};
 ghost use Prim.Native.Nat.{_<_};
+ghost use lib.ListN.{length};
+ghost use Rattle.field.specs.Rooms.{rowsRoom};
 ghost use Rattle.circuit.specs.Buffers.{preparedCount, selectorsLength, labelsLength, witnessLength, preparedLength, wireLength, zLength, quotientLength, fLength, transcriptLength, openingLength, preparedStart, wireStart, zStart, tStart};
 
 // The selectors of a row.
@@ -8,6 +10,9 @@ pub const SELECTOR_COUNT: usize = 5;
 
 // The polynomials of a prepared circuit.
 pub const PREPARED_COUNT: usize = 8;
+
+// The coefficients of a prepared circuit of the greatest number of rows.
+const PREPARED_ROOM: usize = PREPARED_COUNT * field::ROWS_ROOM;
 
 // Which of them is the first of the wired tags.
 pub const WIRED_NUMBER: usize = 5;
@@ -97,6 +102,13 @@ pub fn opening_length(n: usize) -> usize
         return 0;
     }
     t - 1
+}
+
+// Room for a prepared circuit of the greatest number of rows, for a caller that lends parts of it on. What it holds does not matter.
+pub fn prepared_room() -> [u32; PREPARED_ROOM]
+    ensures { λ r. ⌜ preparedLength rowsRoom ≡ length r ⌝ }
+{
+    [0; PREPARED_ROOM]
 }
 
 // Where polynomial s of a prepared circuit starts.

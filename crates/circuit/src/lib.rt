@@ -27,6 +27,7 @@ pub use lengths::f_length;
 pub use lengths::labels_length;
 pub use lengths::opening_length;
 pub use lengths::prepared_length;
+pub use lengths::prepared_room;
 pub use lengths::quotient_length;
 pub use lengths::selectors_length;
 pub use lengths::t_start;

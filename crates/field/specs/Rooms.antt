@@ -6,29 +6,25 @@
 -- wireRoom          the coefficients of a wire, or of z
 -- pairRoom          those of the product of two wires, or of two polynomials as long
 -- productRoom       those of the product of three; or of t
--- preparedRoom      those of a prepared circuit
 -- domainRoom        a number for each point of the largest domain
 --
 -- Assumes nothing.
-use Prim.Native.Nat.{ℕ}
+use Prim.Native.Nat.{ℕ, _+_, _*_}
 
 abbrev pub rowsRoom : ℕ
 rowsRoom = 1024
 
 abbrev pub positionsRoom : ℕ
-positionsRoom = 3072
+positionsRoom = 3 * rowsRoom
 
 abbrev pub wireRoom : ℕ
-wireRoom = 1027
+wireRoom = rowsRoom + 3
 
 abbrev pub pairRoom : ℕ
-pairRoom = 2051
+pairRoom = 2 * rowsRoom + 3
 
 abbrev pub productRoom : ℕ
-productRoom = 3078
-
-abbrev pub preparedRoom : ℕ
-preparedRoom = 8192
+productRoom = 3 * rowsRoom + 6
 
 abbrev pub domainRoom : ℕ
 domainRoom = 8192

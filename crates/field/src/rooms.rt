@@ -2,19 +2,17 @@
 // Those of polynomials have room for blinded ones too (document 02, request 9).
 ghost use mathlib.Core.Path.{_≡_};
 ghost use lib.ListN.{length};
-ghost use Rattle.field.specs.Rooms.{rowsRoom, positionsRoom, wireRoom, pairRoom, productRoom, preparedRoom, domainRoom};
+ghost use Rattle.field.specs.Rooms.{rowsRoom, positionsRoom, wireRoom, pairRoom, productRoom, domainRoom};
 
 pub const ROWS_ROOM: usize = 1024;
 
-pub const POSITIONS_ROOM: usize = 3072;
+pub const POSITIONS_ROOM: usize = 3 * ROWS_ROOM;
 
-pub const WIRE_ROOM: usize = 1027;
+pub const WIRE_ROOM: usize = ROWS_ROOM + 3;
 
-pub const PAIR_ROOM: usize = 2051;
+pub const PAIR_ROOM: usize = 2 * ROWS_ROOM + 3;
 
-pub const PRODUCT_ROOM: usize = 3078;
-
-pub const PREPARED_ROOM: usize = 8192;
+pub const PRODUCT_ROOM: usize = 3 * ROWS_ROOM + 6;
 
 pub const DOMAIN_ROOM: usize = 8192;
 
@@ -51,13 +49,6 @@ pub fn product_room() -> [u32; PRODUCT_ROOM]
     ensures { λ r. ⌜ productRoom ≡ length r ⌝ }
 {
     [0; PRODUCT_ROOM]
-}
-
-// The coefficients of a prepared circuit.
-pub fn prepared_room() -> [u32; PREPARED_ROOM]
-    ensures { λ r. ⌜ preparedRoom ≡ length r ⌝ }
-{
-    [0; PREPARED_ROOM]
 }
 
 // A number for each point of the largest domain.

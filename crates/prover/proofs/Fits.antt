@@ -14,7 +14,7 @@ use native.Mathlib.Omega.{arith}
 use lib.ListN.{length, getD, take, drop, length-take, length-drop, length-append}
 use lib.Seq.{take-at}
 use Rattle.algebra.specs.Polynomial.{coef}
-use Rattle.field.specs.Rooms.{rowsRoom, preparedRoom}
+use Rattle.field.specs.Rooms.{rowsRoom}
 use Rattle.field.specs.Primes.{rows-power}
 use Rattle.field.specs.Domain.{Domain}
 use Rattle.transform.specs.Transform.{interpolation}
@@ -37,7 +37,7 @@ module _ {p n : ℕ} {selectors labels publics challenges scratch : List ℕ} (R
   pub filling-fits : fLength n ≤ length scratch
   filling-fits = omega (arith, R .scratch-long)
 
-  pub prepared-fits : (l : List ℕ) → preparedRoom ≡ length l → preparedLength n ≤ length l
+  pub prepared-fits : (l : List ℕ) → preparedLength rowsRoom ≡ length l → preparedLength n ≤ length l
   prepared-fits l e = omega (arith, rows-power p n (R .admissible .rows) .small)
 
   pub room-fits : (l : List ℕ) → rowsRoom ≡ length l → n ≤ length l

@@ -33,7 +33,7 @@ fn fill_f(
     let m = n as usize;
     let k = circuit::prepared_length(m);
     let end = circuit::f_length(m);
-    let mut prepared = field::prepared_room();
+    let mut prepared = circuit::prepared_room();
     let powers = field::domain_points(p, n);
     preparing::work(p, n, selectors, labels, &mut prepared[..k], scratch);
     quotients::fill(
