@@ -24,7 +24,7 @@ use Rattle.losses.specs.declared.Counted.{Counted}
 use Rattle.losses.specs.Losses.{LosesGammasWith}
 use Rattle.text.specs.Text.{refusedText}
 use Rattle.sheet.specs.declared.SheetAnswer.{SheetAnswer}
-use Rattle.sheet.specs.Sheet.{onWitnessWith, challengeCount}
+use Rattle.sheet.specs.Sheet.{onWitnessWith}
 use Rattle.sheet.specs.Promises.{ReadsWith}
 use Rattle.joining.specs.declared.Joined.{Joined}
 use Rattle.joining.specs.Joining.{JoinsWith}

@@ -41,7 +41,7 @@ use Rattle.prover.specs.Promises.{Proves}
 use Rattle.losses.specs.declared.Counted.{Counted}
 use Rattle.losses.specs.Losses.{lostDue, LosesGammas}
 use Rattle.sheet.specs.declared.SheetAnswer.{SheetAnswer}
-use Rattle.sheet.specs.Sheet.{sheetRows, challengeCount, sheetP, sheetN, sheetL, onWitnessWith, onWitness, padded, firstReasons, lineReasons, sheetLengths, newReasonsWith, newReasons}
+use Rattle.sheet.specs.Sheet.{sheetRows, sheetP, sheetN, sheetL, onWitnessWith, onWitness, padded, firstReasons, lineReasons, sheetLengths, newReasonsWith, newReasons}
 use Rattle.sheet.specs.Promises.{Reads}
 use Rattle.joining.specs.declared.Joined.{Joined}
 use Rattle.joining.specs.Joining.{joinedTextWith, joinedText, joinedLength, joinDue, pairReasons, Joins}
