@@ -107,7 +107,7 @@ extern "C" {
 #define GUPPYSPOON_TO_ROWS_STACK 8192
 #define GUPPYSPOON_TO_COLUMNS_STACK 8192
 #define GUPPYSPOON_DEPOSIT_STACK 294912
-#define GUPPYSPOON_JOIN_STACK 57344
+#define GUPPYSPOON_JOIN_STACK 65536
 
 /* Word 0 of an answer: accepted, or the first of the call's reasons, in the order in which they are named at the call, that applies. Word 1 is the
  * detail, 0 unless named here. */

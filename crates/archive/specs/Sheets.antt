@@ -7,6 +7,7 @@
 -- READ INTO ARRAYS OF THE LENGTHS THAT ARE DUE
 -- Arrays          the arrays that are lent have these lengths
 -- read-answer     the answer is that of the definitions, of a sheet whose prime may be proved with
+-- right           a sheet that is read without a refusal has what Right says
 -- rows-few, publics-few   n and l are at most 256
 -- sheet-workable  the prover can be lent the numbers
 -- sheet-text, unread-text   the text of the numbers that are read, and of a refusal, is the text of the deposit

@@ -18,6 +18,7 @@ mod lines;
 mod rooms;
 mod work;
 
+pub use rooms::TEXT_LENGTH;
 pub use rooms::text_room;
 
 // The answer of `deposit`: how many bytes of the buffer are text; 0 if refused.

@@ -3,6 +3,7 @@ ghost use mathlib.Core.Path.{_≡_};
 ghost use lib.ListN.{length};
 ghost use Rattle.circuit.specs.Buffers.{selectorsLength, labelsLength, preparedLength};
 ghost use Rattle.sheet.specs.Sheet.{sheetRows, challengeCount};
+ghost use Rattle.archive.specs.Printed.{textLength};
 ghost use Rattle.archive.specs.Rooms.{scratchRoom, transcriptRoom};
 
 // The rows of the greatest sheet.
@@ -21,6 +22,9 @@ const PREPARED: usize = circuit::PREPARED_COUNT * ROWS;
 const SCRATCH: usize = 16 * ROWS + 64;
 
 const TRANSCRIPT: usize = 7 * ROWS + 15;
+
+// The text of any deposit.
+pub const TEXT_LENGTH: usize = 20480;
 
 // The selectors.
 pub fn selectors_room() -> [u32; SELECTORS]
@@ -72,8 +76,8 @@ pub fn transcript_room() -> [u32; TRANSCRIPT]
 }
 
 // The length of the buffer that the text is printed into.
-pub fn text_room() -> [u8; 20480]
-    ensures { λ r. ⌜ 20480 ≡ length r ⌝ }
+pub fn text_room() -> [u8; TEXT_LENGTH]
+    ensures { λ r. ⌜ textLength ≡ length r ⌝ }
 {
-    [0; 20480]
+    [0; TEXT_LENGTH]
 }

@@ -6,7 +6,7 @@ pub mod Promises
 pub mod AnyRows
 pub mod Ahead
 pub mod Publics
-pub mod Sized
+pub mod Countable
 pub mod Positions
 pub mod Parts
 pub mod Witness

@@ -1,7 +1,7 @@
 -- Buffers that are lent rightly are never turned down.
 --
--- RightCircuit p n l selectors labels   5n selectors and 3n labels, which are a circuit of n rows with l public inputs
--- selectors-right, labels-right       its selectors are 5n elements, its labels 3n numbers below 3n
+-- RightCircuit p n l selectors labels   as many selectors and labels as are due, which are a circuit of n rows with l public inputs
+-- selectors-right, labels-right       its selectors are elements, its labels numbers below 3n, as many as are due
 -- labels-of                           such labels are what the permutation asks
 -- at-end, at-none                     a search that applies nowhere has come to its end; and back
 -- circuit-of, bound                   a circuit, from elements, labels below 3n and no row for 14; and no row for 14, from a circuit

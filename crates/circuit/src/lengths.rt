@@ -11,23 +11,29 @@ pub const SELECTOR_COUNT: usize = 5;
 // The polynomials of a prepared circuit.
 pub const PREPARED_COUNT: usize = 8;
 
-// The coefficients of a prepared circuit of the greatest number of rows.
-const PREPARED_ROOM: usize = PREPARED_COUNT * field::ROWS_ROOM;
-
 // Which of them is the first of the wired tags.
 pub const WIRED_NUMBER: usize = 5;
 
 // The number of the first wire; the numbers below it are polynomials of a prepared circuit.
 pub const WIRE_NUMBER: u32 = 8;
 
+// The number before it.
+pub const PREPARED_LAST: u32 = WIRE_NUMBER - 1;
+
 // The number of z.
 pub const Z_NUMBER: u32 = 11;
+
+// The number of the last wire.
+pub const WIRE_LAST: u32 = Z_NUMBER - 1;
 
 // The number of t.
 pub const T_NUMBER: u32 = 12;
 
 // How many polynomials have a number: the numbers are those below it.
 pub const POLYNOMIAL_COUNT: usize = 13;
+
+// The coefficients of a prepared circuit of the greatest number of rows.
+const PREPARED_ROOM: usize = PREPARED_COUNT * field::ROWS_ROOM;
 
 pub fn selectors_length(n: usize) -> usize
     requires { ⌜ n < 4294967296 ⌝ }

@@ -34,7 +34,6 @@ pub use lengths::t_start;
 pub use lengths::transcript_length;
 pub use lengths::wire_length;
 pub use lengths::witness_length;
-pub use lengths::z_length;
 pub use lengths::z_start;
 pub use parts::any_rows;
 pub use parts::prepared_part;

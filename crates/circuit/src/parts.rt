@@ -5,7 +5,9 @@ ghost use lib.ListN.{length};
 ghost use Rattle.circuit.specs.Buffers.{preparedCount, preparedLength, wireLength, zLength, tStart, tPart, transcriptLength};
 ghost use Rattle.circuit.specs.Promises.{anyRows, preparedPlace, wirePlace, zPlace, numberedPart, Hands};
 use super::lengths;
+use super::lengths::PREPARED_LAST;
 use super::lengths::T_NUMBER;
+use super::lengths::WIRE_LAST;
 use super::lengths::WIRE_NUMBER;
 use super::lengths::Z_NUMBER;
 
@@ -65,17 +67,11 @@ pub fn part<'a>(n: usize, number: u32, prepared: &'a [u32], transcript: &'a [u32
     requires { ⌜ (length (now prepared) ≡ preparedLength n) × (length (now transcript) ≡ transcriptLength n) ⌝ }
     ensures { λ r. ⌜ Hands (numberedPart n number (prepared .entry) (transcript .entry)) r ⌝ }
 {
-    if number < WIRE_NUMBER {
-        return prepared_part(n, number as usize, prepared);
+    match number {
+        0..=PREPARED_LAST => prepared_part(n, number as usize, prepared),
+        WIRE_NUMBER..=WIRE_LAST => wire_part(n, (number - WIRE_NUMBER) as usize, transcript),
+        Z_NUMBER => z_part(n, transcript),
+        T_NUMBER => t_part(n, transcript),
+        _ => &transcript[..0],
     }
-    if number < Z_NUMBER {
-        return wire_part(n, (number - WIRE_NUMBER) as usize, transcript);
-    }
-    if number == Z_NUMBER {
-        return z_part(n, transcript);
-    }
-    if number == T_NUMBER {
-        return t_part(n, transcript);
-    }
-    &transcript[..0]
 }

@@ -8,7 +8,7 @@ ghost use Rattle.field.specs.Lent.{Lent};
 ghost use Rattle.circuit.specs.Circuit.{lentConstraints};
 ghost use Rattle.circuit.specs.Buffers.{selectorsLength};
 ghost use Rattle.circuit.specs.Reasons.{badLabel, badPublicRow, circuitReasons, numberReasons};
-ghost use Rattle.circuit.specs.Sized.{Sized};
+ghost use Rattle.circuit.specs.Countable.{Countable};
 use field::Answer;
 
 // The reason of the labels, 8.
@@ -80,7 +80,7 @@ pub fn decide_filled(
     challenges: &[u32],
 ) -> Answer
     requires { ⌜ (length (now long) ≡ length (now due)) × (length (now due) ≤ 16) ⌝ }
-    requires { ⌜ (Lent p n l (now long) (now due) → Sized n (now selectors) (now labels) (now witness) (now publics) (now z) (now challenges)) ⌝ }
+    requires { ⌜ (Lent p n l (now long) (now due) → Countable n (now selectors) (now labels) (now witness) (now publics) (now z) (now challenges)) ⌝ }
     ensures { λ r. ⌜ r ≡ answerOf (lentReasons p n l (now (long .entry)) (now (due .entry)) ++ numberReasons p n l (now (selectors .entry) ++ (now (witness .entry) ++ (now (publics .entry) ++ (now (z .entry) ++ now (challenges .entry))))) (now (selectors .entry)) (now (labels .entry))) ⌝ }
 {
     let answer = field::decide_lent(p, n, l, long, due);

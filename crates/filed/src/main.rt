@@ -101,18 +101,27 @@ fn print_judged(i: usize, sheet: &[u8], text: &[u8]) -> bool
     true
 }
 
-// The deposit whose sheet argument i names, and whose text the next one does. False where one of them cannot be read or the name not printed: what
-// failed is told.
+// The same, for a text of any length. One that is longer than the text of any deposit is told, and not judged.
+fn print_lines(i: usize, sheet: &[u8], text: &[u8]) -> bool {
+    if archive::TEXT_LENGTH < text.len() {
+        streams::tell(b"a text is longer than that of any deposit\n");
+        return false;
+    }
+    print_judged(i, sheet, text)
+}
+
+// The deposit whose sheet argument i names, and whose text the next one does. False where one of them cannot be read, or not be judged, or the name not
+// printed: what failed is told.
 fn judge_filed(i: usize, next: usize) -> bool {
     let mut sheet = sheet::sheet_room();
     let Got::Bytes(n) = streams::read_file(i, &mut sheet) else {
         return false;
     };
-    let mut text = archive::text_room();
+    let mut text = sheet::sheet_room();
     let Got::Bytes(m) = streams::read_file(next, &mut text) else {
         return false;
     };
-    print_judged(i, &sheet[..n], &text[..m])
+    print_lines(i, &sheet[..n], &text[..m])
 }
 
 fn main() {

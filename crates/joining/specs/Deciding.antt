@@ -9,6 +9,7 @@
 -- first-retired, second-retired   the answer is 16 where the first sheet is over 97 and its first line is in form, and where no reason of the first applies and the second is
 -- joinable-of         where no reason of `join` applies, the sheets can be joined
 -- room-is             and the written buffer has the length due
+-- rows-few            and the first has no more rows than a sheet may have
 -- refused-join, made-join   the promise of `join`, where it is turned down and where not
 --
 -- Assumes nothing.

@@ -20,6 +20,7 @@ use Rattle.algebra.specs.Ends.{run-room}
 use Rattle.algebra.specs.Tables.{getD-tab}
 use Rattle.field.specs.Primes.{rows-power}
 use Rattle.circuit.specs.Circuit.{Circuit, position, isPublic, isPublicRow, permutation, gate}
+use Rattle.circuit.specs.Buffers.{selectorCount}
 use Rattle.circuit.specs.Permutation.{permutation-perm, permutation-label}
 use Rattle.circuit.specs.Witness.{lent-laid}
 use Rattle.joining.specs.Joining.{Numbers, constraintsOf, publicOf, witnessOf, Satisfied, sourceRow, fromRow, fromSecond, joinedAt, joinedNumbers}
@@ -48,9 +49,9 @@ module _ (p n l m : ℕ) (selectors labels witness publics challenges selectors'
   source i = sourceRow n l m i
 
   -- selector s of a row is that of the row it comes from
-  selector : (s i : ℕ) → s < 5 → i < 2 * n
+  selector : (s i : ℕ) → s < selectorCount → i < 2 * n
       → getD (J .selectors) (position (2 * n) s i) 0 ≡ fromRow (λ r. getD selectors (position n s r) 0) (λ r. getD selectors' (position n s r) 0) (source i)
-  selector s i h k = joined-word n l m 5 (λ k. getD selectors k 0) (λ k. getD selectors' k 0) s i h k
+  selector s i h k = joined-word n l m selectorCount (λ k. getD selectors k 0) (λ k. getD selectors' k 0) s i h k
 
   label-at : (k : ℕ) → k < 3 * (2 * n) → constraintsOf J .label k ≡ joinedAt n l m (λ k. getD labels k 0) (λ k. 3 * n + getD labels' k 0) k
   label-at k h = getD-tab (joinedAt n l m (λ k. getD labels k 0) (λ k. 3 * n + getD labels' k 0)) (3 * (2 * n)) k h
@@ -97,7 +98,7 @@ module _ (p n l m : ℕ) (selectors labels witness publics challenges selectors'
     -- THE CIRCUIT
 
     -- a selector of a row, where it is so of each sheet's
-    selector-of : (P : ℕ → Type 0) (s i : ℕ) → s < 5 → i < 2 * n → ((r : ℕ) → r < n → P (getD selectors (position n s r) 0))
+    selector-of : (P : ℕ → Type 0) (s i : ℕ) → s < selectorCount → i < 2 * n → ((r : ℕ) → r < n → P (getD selectors (position n s r) 0))
         → ((r : ℕ) → r < n → P (getD selectors' (position n s r) 0)) → P (getD (J .selectors) (position (2 * n) s i) 0)
     selector-of P s i h k f g =
         subst P (sym (selector s i h k)) (picked P (source i) (source-below n l m few few' i k) f g)

@@ -30,7 +30,7 @@ use Rattle.circuit.specs.Witness.{lent-laid}
 use Rattle.text.specs.Text.{lineOf}
 use Rattle.sheet.specs.Sheet.{challengeCount, labelField, gateFields, linesDue, sheetP, sheetN, sheetL, onSelectors, onLabels, onPublics, onChallenges}
 use Rattle.sheet.specs.Due.{due-witness}
-use Rattle.sheet.specs.Table.{tableLength, tablePlace, byColumns, publicsBlock, challengesBlock, placeIn, inTable, Full, Held}
+use Rattle.sheet.specs.Table.{tableLength, tablePlace, columnBlock, publicsBlock, challengesBlock, placeIn, inTable, Full, Held}
 use Rattle.sheet.specs.TableLaws.{on-position, selectors-same, labels-same, publics-same, challenges-same}
 use Rattle.sheet.specs.LaidLines.{laid-split, laid-same}
 use Rattle.sheet.specs.Written.{circuitLine, witnessLine, publicLine}
@@ -58,7 +58,7 @@ module _ (s t : List ℕ) (full : Full (sheetN s) (sheetL s) t) (held : Held s (
 
   -- the word of a block that is lent column after column, from this line and this field on
   word : (line field count c i place : ℕ) → i < n → place ≡ tablePlace (line + i) (field + c)
-      → getD t place 0 ≡ inTable t (byColumns n line field count) (position n c i)
+      → getD t place 0 ≡ inTable t (columnBlock n line field count) (position n c i)
   word line field count c i place h e = ap (λ (k : ℕ). getD t k 0) (omega (arith, position-row n c i h, position-column n c i h))
 
   selector-word : (c i : ℕ) → c < selectorCount → i < n → getD t (tablePlace (1 + i) c) 0 ≡ getD (onSheet s .selectors) (position n c i) 0

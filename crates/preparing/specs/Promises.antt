@@ -1,7 +1,7 @@
 -- What `prepare` promises, and what its inner functions ask.
 --
 -- Prepares    refused: prepared circuit and scratch as they came; accepted: the prepared circuit of the definitions, and zeros in the scratch
--- Checked     what the call has checked: p and n are admissible, the selectors are 5n elements, the labels 3n below 3n, the other lengths are right
+-- Checked     what the call has checked: p and n are admissible, the selectors are elements, the labels below 3n, and the lengths are right
 -- rowsOf      the row values that preparing interpolates, end to end: the selectors, then the tags of where the permutation leads
 --
 -- Assumes nothing.

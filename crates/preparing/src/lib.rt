@@ -1,4 +1,4 @@
-// Preparing a circuit: the eight polynomials of its selectors and of the tags of where the permutation leads.
+// Preparing a circuit: the polynomials of its selectors and of the tags of where the permutation leads.
 //
 // The public call is `prepare`. `work` is for the prover too, which has checked its numbers.
 ghost use mathlib.Core.Path.{_≡_};

@@ -23,6 +23,7 @@ use Rattle.field.specs.Fields.{point}
 use Rattle.field.specs.Domain.{Domain}
 use Rattle.transform.specs.Transform.{interpolation}
 use Rattle.circuit.specs.Circuit.{Constraints, position, gate}
+use Rattle.circuit.specs.Buffers.{wireLength, zLength}
 use Rattle.protocol.specs.Protocol.{fOf, gatePart, stepPart, startPart, preparedPoly, prepared, transcript, pass, rowVerdict, accept, pointVerdict}
 use Rattle.protocol.specs.Domains.{point-power}
 use Rattle.protocol.specs.Rows.{RowHolds, pass-or-row}
@@ -91,7 +92,7 @@ module _ (q n : ℕ) (D : Domain (suc q) n) (C : Constraints) (x : ℕ → ℕ) 
 
   -- ZETAS
 
-  pub few-zetas : ((c : ℕ) → c < 3 → length (wire c) ≡ n) → length z ≡ n → (alpha : ℕ) (t : List ℕ) (d : ℕ)
+  pub few-zetas : ((c : ℕ) → c < 3 → length (wire c) ≡ wireLength n) → length z ≡ zLength n → (alpha : ℕ) (t : List ℕ) (d : ℕ)
       → length (fOf (suc q) n C x wire z beta gamma alpha) ≤ suc d → n + length t ≤ suc d
       → (SameP (suc q) (fOf (suc q) n C x wire z beta gamma alpha) (timesVanishing (suc q) n t) → ⊥)
       → AtMost d (λ (zeta : ℕ). (zeta < suc q) × (pointVerdict (suc q) n (prepared (suc q) n C) x (transcript wire z t) beta gamma alpha zeta ≡ accept))

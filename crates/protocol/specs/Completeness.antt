@@ -29,6 +29,7 @@ use Rattle.field.specs.Domain.{Domain}
 use Rattle.transform.specs.Transform.{interpolation}
 use Rattle.transform.specs.Interpolation.{interpolation-at, interpolation-elements, rows-positive}
 use Rattle.circuit.specs.Circuit.{Constraints, position, permutation, Satisfies}
+use Rattle.circuit.specs.Buffers.{wireLength, zLength}
 use Rattle.circuit.specs.Permutation.{permutation-perm, permutation-label}
 use Rattle.protocol.specs.Protocol.{fOf, factor, wiredTag, rowN, rowD, startPart, preparedPoly, prepared, wiresOf, zOf, tOf, transcript, proved, pass, rowVerdict, accept, pointVerdict}
 use Rattle.protocol.specs.Rows.{RowHolds, rows-pass}
@@ -132,10 +133,10 @@ module _ (q n : ℕ) (D : Domain (suc q) n) (C : Constraints) (x v : ℕ → ℕ
   wires-fit : (c i : ℕ) → c < 3 → i < n → Cong (suc q) (eval (wires c) (P i)) (v (position n c i))
   wires-fit c i h l = interpolation-at q n D (λ r. v (position n c r)) i l
 
-  wires-long : (c : ℕ) → c < 3 → length (wires c) ≡ n
+  wires-long : (c : ℕ) → c < 3 → length (wires c) ≡ wireLength n
   wires-long c h = interpolation-elements D _ .long
 
-  z-long : length z ≡ n
+  z-long : length z ≡ zLength n
   z-long = interpolation-elements D _ .long
 
   z-fit : (i : ℕ) → i < n → Cong (suc q) (eval z (P i)) (coef rows i)

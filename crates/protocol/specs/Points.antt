@@ -18,11 +18,11 @@ use Rattle.algebra.specs.Congruence.{Cong, cong, _⨾_}
 use Rattle.algebra.specs.Division.{eval-vanishing}
 use Rattle.field.specs.Domain.{Domain}
 use Rattle.circuit.specs.Circuit.{Constraints}
-use Rattle.circuit.specs.Buffers.{tPart}
+use Rattle.circuit.specs.Buffers.{wireLength, zLength, tPart}
 use Rattle.protocol.specs.Protocol.{fOf, prepared, transcript, accept, reject, pointF, pointVerdict}
 use Rattle.protocol.specs.Layout.{t-part, lent-F}
 
-module _ (q n : ℕ) (D : Domain (suc q) n) (C : Constraints) (x : ℕ → ℕ) (wire : ℕ → List ℕ) (z t : List ℕ) (lw : (c : ℕ) → c < 3 → length (wire c) ≡ n) (lz : length z ≡ n)
+module _ (q n : ℕ) (D : Domain (suc q) n) (C : Constraints) (x : ℕ → ℕ) (wire : ℕ → List ℕ) (z t : List ℕ) (lw : (c : ℕ) → c < 3 → length (wire c) ≡ wireLength n) (lz : length z ≡ zLength n)
     (beta gamma alpha zeta : ℕ) where
   abbrev p : ℕ
   p = suc q

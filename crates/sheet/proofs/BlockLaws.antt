@@ -22,10 +22,10 @@ use Rattle.algebra.specs.Tables.{tab-ext, tab-add, tab-const}
 use Rattle.circuit.specs.Buffers.{selectorCount, selectorsLength, labelsLength, witnessLength}
 use Rattle.sheet.specs.Sheet.{challengeCount, labelField, padded}
 use Rattle.sheet.specs.declared.blocks.Block.{Block}
-use Rattle.sheet.specs.Table.{lineWords, tableLines, tableLength, tablePlace, byColumns, byRows, selectorsBlock, labelsBlock, witnessBlock, publicsBlock, challengesBlock, inTable, Fits, Full}
+use Rattle.sheet.specs.Table.{lineWords, tableLines, tableLength, tablePlace, columnBlock, rowBlock, selectorsBlock, labelsBlock, witnessBlock, publicsBlock, challengesBlock, inTable, Fits, Full}
 
 pub columns-fit : (t : List ℕ) (n line field c count : ℕ) → 0 < n → line + n ≤ tableLines → length t ≡ tableLength → field + c ≤ lineWords → count ≤ c * n
-    → Fits t (byColumns n line field count)
+    → Fits t (columnBlock n line field count)
 columns-fit t n line field c count some lines long fields few =
     record {
       some = some;
@@ -36,7 +36,7 @@ columns-fit t n line field c count some lines long fields few =
     inside a b g h = omega arith
 
 pub rows-fit : (t : List ℕ) (width rows line count : ℕ) → 0 < width → width ≤ lineWords → line + rows ≤ tableLines → length t ≡ tableLength → count ≤ rows * width
-    → Fits t (byRows width line count)
+    → Fits t (rowBlock width line count)
 rows-fit t width rows line count some fields lines long few =
     record {
       some = some;

@@ -4,8 +4,8 @@
 -- tableLines           the lines: no sheet has more
 -- tableLength          the words of the table
 -- tablePlace i j       where field j of line i stands
--- byColumns n line field count   a block of the table that is lent column after column: `count` numbers of n lines, from this line and this field on
--- byRows width line count         one that is lent row by row: `count` numbers of lines of `width` fields, from this line on
+-- columnBlock n line field count   a block of the table that is lent column after column: `count` numbers of n lines, from this line and this field on
+-- rowBlock width line count         one that is lent row by row: `count` numbers of lines of `width` fields, from this line on
 -- selectorsBlock, labelsBlock, witnessBlock, publicsBlock, challengesBlock   the blocks that are lent
 -- placeIn B k, inTable t B k      where number k of a block stands, and the number
 -- selectorsIn, labelsIn, witnessIn, publicsIn, challengesIn   number k of each block that is lent
@@ -39,26 +39,26 @@ tableLength = lineWords * tableLines
 abbrev pub tablePlace : ℕ → ℕ → ℕ
 tablePlace i j = lineWords * i + j
 
-abbrev pub byColumns : (n line field count : ℕ) → Block
-byColumns n line field count = record { start = tablePlace line field; run = n; step = lineWords; leap = 1; count = count }
+abbrev pub columnBlock : (n line field count : ℕ) → Block
+columnBlock n line field count = record { start = tablePlace line field; run = n; step = lineWords; leap = 1; count = count }
 
-abbrev pub byRows : (width line count : ℕ) → Block
-byRows width line count = record { start = tablePlace line 0; run = width; step = 1; leap = lineWords; count = count }
+abbrev pub rowBlock : (width line count : ℕ) → Block
+rowBlock width line count = record { start = tablePlace line 0; run = width; step = 1; leap = lineWords; count = count }
 
 abbrev pub selectorsBlock : ℕ → Block
-selectorsBlock n = byColumns n 1 0 (selectorsLength n)
+selectorsBlock n = columnBlock n 1 0 (selectorsLength n)
 
 abbrev pub labelsBlock : ℕ → Block
-labelsBlock n = byColumns n 1 labelField (labelsLength n)
+labelsBlock n = columnBlock n 1 labelField (labelsLength n)
 
 abbrev pub witnessBlock : ℕ → Block
-witnessBlock n = byRows 3 (n + 1) (witnessLength n)
+witnessBlock n = rowBlock 3 (n + 1) (witnessLength n)
 
 abbrev pub publicsBlock : ℕ → ℕ → Block
-publicsBlock n l = byRows 1 (n + n + 1) l
+publicsBlock n l = rowBlock 1 (n + n + 1) l
 
 abbrev pub challengesBlock : ℕ → ℕ → Block
-challengesBlock n l = byRows challengeCount (n + n + l + 1) challengeCount
+challengesBlock n l = rowBlock challengeCount (n + n + l + 1) challengeCount
 
 abbrev pub placeIn : Block → ℕ → ℕ
 placeIn B k = B .start + B .step * (k % B .run) + B .leap * (k / B .run)

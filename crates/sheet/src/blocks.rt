@@ -2,7 +2,7 @@
 ghost use mathlib.Core.Path.{_≡_};
 ghost use Prim.Native.Nat.{_≤_, _<_};
 ghost use Rattle.sheet.specs.Sheet.{sheetRows};
-ghost use Rattle.sheet.specs.Table.{lineWords, tableLines, byColumns, byRows, selectorsBlock, labelsBlock, witnessBlock, publicsBlock, challengesBlock};
+ghost use Rattle.sheet.specs.Table.{lineWords, tableLines, columnBlock, rowBlock, selectorsBlock, labelsBlock, witnessBlock, publicsBlock, challengesBlock};
 use super::table::LINE_WORDS;
 use super::table::table_place;
 
@@ -16,9 +16,9 @@ pub struct Block {
 }
 
 // Column after column, of n lines: from a number to the next it goes a line down.
-fn by_columns(n: usize, line: usize, field: usize, count: usize) -> Block
+fn column_block(n: usize, line: usize, field: usize, count: usize) -> Block
     requires { ⌜ (line < tableLines) × (field < lineWords) ⌝ }
-    ensures { λ r. ⌜ r ≡ byColumns n line field count ⌝ }
+    ensures { λ r. ⌜ r ≡ columnBlock n line field count ⌝ }
 {
     Block {
         start: table_place(line, field),
@@ -30,9 +30,9 @@ fn by_columns(n: usize, line: usize, field: usize, count: usize) -> Block
 }
 
 // Row by row, of lines of `width` numbers: from a number to the next it goes a field on.
-fn by_rows(width: usize, line: usize, count: usize) -> Block
+fn row_block(width: usize, line: usize, count: usize) -> Block
     requires { ⌜ line < tableLines ⌝ }
-    ensures { λ r. ⌜ r ≡ byRows width line count ⌝ }
+    ensures { λ r. ⌜ r ≡ rowBlock width line count ⌝ }
 {
     Block {
         start: table_place(line, 0),
@@ -47,35 +47,35 @@ pub fn selectors(n: usize) -> Block
     requires { ⌜ n ≤ sheetRows ⌝ }
     ensures { λ r. ⌜ r ≡ selectorsBlock n ⌝ }
 {
-    by_columns(n, 1, 0, circuit::selectors_length(n))
+    column_block(n, 1, 0, circuit::selectors_length(n))
 }
 
 pub fn labels(n: usize) -> Block
     requires { ⌜ n ≤ sheetRows ⌝ }
     ensures { λ r. ⌜ r ≡ labelsBlock n ⌝ }
 {
-    by_columns(n, 1, super::LABEL_FIELD, circuit::labels_length(n))
+    column_block(n, 1, super::LABEL_FIELD, circuit::labels_length(n))
 }
 
 pub fn witness(n: usize) -> Block
     requires { ⌜ n ≤ sheetRows ⌝ }
     ensures { λ r. ⌜ r ≡ witnessBlock n ⌝ }
 {
-    by_rows(3, n + 1, circuit::witness_length(n))
+    row_block(3, n + 1, circuit::witness_length(n))
 }
 
 pub fn publics(n: usize, l: usize) -> Block
     requires { ⌜ n ≤ sheetRows ⌝ }
     ensures { λ r. ⌜ r ≡ publicsBlock n l ⌝ }
 {
-    by_rows(1, n + n + 1, l)
+    row_block(1, n + n + 1, l)
 }
 
 pub fn challenges(n: usize, l: usize) -> Block
     requires { ⌜ (n ≤ sheetRows) × (l ≤ n) ⌝ }
     ensures { λ r. ⌜ r ≡ challengesBlock n l ⌝ }
 {
-    by_rows(
+    row_block(
         super::CHALLENGE_COUNT,
         n + n + l + 1,
         super::CHALLENGE_COUNT,

@@ -1,7 +1,6 @@
 -- `filed::judge_filed` is safe: the sheet and its text are within their buffers. Assumes nothing.
 use mathlib.Core.Path.{sym}
 use Prim.Native.Nat.{_≤_}
-use native.Mathlib.Omega.{arith}
 use lib.ListN.{length}
 use lib.Seq.{length-take-le}
 use borrow.Author.Needs.{needs}
@@ -34,8 +33,8 @@ enum-told c = search needs
 returns : tie.Need-returns
 returns c = search needs
 
-text-room-requires : tie.Need-text-room-requires
-text-room-requires c κs = search needs
+sheet-room-requires-2 : tie.Need-sheet-room-requires-2
+sheet-room-requires-2 c κs = search needs
 
 slice-aggregate-read-file-2 : tie.Need-slice-aggregate-read-file-2
 slice-aggregate-read-file-2 c = search needs
@@ -55,21 +54,14 @@ returns-2 c = search needs
 array-share-prefix-sheet : tie.Need-array-share-prefix-sheet
 array-share-prefix-sheet c = sheet-fits (c .before .before .before .before .before .before .before .before)
 
-slice-aggregate-print-judged : tie.Need-slice-aggregate-print-judged
-slice-aggregate-print-judged c = sym (length-take-le _ _ (sheet-fits (c .before .before .before .before .before .before .before .before .before)))
+slice-aggregate-print-lines : tie.Need-slice-aggregate-print-lines
+slice-aggregate-print-lines c = sym (length-take-le _ _ (sheet-fits (c .before .before .before .before .before .before .before .before .before)))
 
 array-share-prefix-text : tie.Need-array-share-prefix-text
 array-share-prefix-text c = text-fits (c .before .before)
 
-slice-aggregate-print-judged-2 : tie.Need-slice-aggregate-print-judged-2
-slice-aggregate-print-judged-2 c = sym (length-take-le _ _ (text-fits (c .before .before .before)))
-
-print-judged-requires : tie.Need-print-judged-requires
-print-judged-requires c κs =
-    let m = c .before .before .before in
-    let read = m .before .before .before .read-file2 in
-    let fits = text-fits m in
-    omega (arith, length-take-le (m .m .given .0 .0) (read .last .1 .0) fits, fits, read .kept .1 .0, m .before .before .before .before .before .text-room .ensures)
+slice-aggregate-print-lines-2 : tie.Need-slice-aggregate-print-lines-2
+slice-aggregate-print-lines-2 c = sym (length-take-le _ _ (text-fits (c .before .before .before)))
 
 returns-3 : tie.Need-returns-3
 returns-3 c = search needs
@@ -84,15 +76,14 @@ judge-filed-spec =
     enum-known-n
     enum-told
     returns
-    text-room-requires
+    sheet-room-requires-2
     slice-aggregate-read-file-2
     read-file-requires-2
     enum-known-m
     enum-told-2
     returns-2
     array-share-prefix-sheet
-    slice-aggregate-print-judged
+    slice-aggregate-print-lines
     array-share-prefix-text
-    slice-aggregate-print-judged-2
-    print-judged-requires
+    slice-aggregate-print-lines-2
     returns-3)

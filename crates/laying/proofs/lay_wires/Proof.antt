@@ -19,7 +19,6 @@ interpolate-parts-requires c κs =
       domain-lent = s .pre .0 .points;
       elements = wire-elements (s .args .p) (s .args .n) (s .args .witness .now) _ (c .before .before .before .before .wire-values .ensures) (s .pre .0 .elements);
       spare = s .pre .1 .1;
-      few = omega arith;
     }
 
 same-length : tie.Need-same-length

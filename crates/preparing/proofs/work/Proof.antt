@@ -1,4 +1,4 @@
--- `preparing::work` meets its contract: the eight runs of row values become the eight polynomials. Assumes nothing.
+-- `preparing::work` meets its contract: the runs of row values become the polynomials. Assumes nothing.
 use mathlib.Core.Path.{ap, sym, _∙_}
 use Prim.Native.Nat.{ℕ, _≤_}
 use native.Mathlib.Omega.{arith}
@@ -51,7 +51,6 @@ interpolate-parts-requires c κs =
       domain-lent = record { admissible = s .pre .admissible; points = d .domain-points .ensures .1 };
       elements = rw (c .before .before .before .before .before .fill-rows .ensures) (rows-elements _ _ (s .args .selectors .now) (s .args .labels .now) (s .pre .admissible) (s .pre .elements));
       spare = length-take-le _ _ (scratch-fits d);
-      few = omega arith;
     }
 
 clear-requires : tie.Need-clear-requires

@@ -70,8 +70,8 @@ add-decide-numbers c = search needs
 decide-numbers-requires : tie.Need-decide-numbers-requires
 decide-numbers-requires c κs =
     let e = c .before .before in
-    let sized = start (e .before) .pre .1 (known e) in
-    ((few e .0, few e .1, sized .numbers-few), (sized .selectors-long, sized .labels-few))
+    let countable = start (e .before) .pre .1 (known e) in
+    ((few e .0, few e .1, countable .numbers-few), (countable .selectors-long, countable .labels-few))
 
 returns-2 : tie.Need-returns-2
 returns-2 c =

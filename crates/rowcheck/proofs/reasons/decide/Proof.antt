@@ -10,7 +10,7 @@ use Rattle.field.specs.Primes.{rows-power}
 use Rattle.field.specs.Reasons.{answerOf, lentReasons}
 use Rattle.circuit.specs.Buffers.{selectorsLength, labelsLength, witnessLength}
 use Rattle.circuit.specs.Reasons.{rowsDue, numberReasons}
-use Rattle.circuit.specs.Sized.{Sized}
+use Rattle.circuit.specs.Countable.{Countable}
 use Rattle.rowcheck.proofs.reasons.decide.Statement.{statement}
 use Rattle.rowcheck.proofs.reasons.decide.Tie as tie
 
@@ -19,9 +19,9 @@ abbrev long : tie.Start → List ℕ
 long s =
     length (s .args .selectors .now) ∷ length (s .args .labels .now) ∷ length (s .args .witness .now) ∷ length (s .args .publics .now) ∷ length (s .args .z .now) ∷ length (s .args .challenges .now) ∷ []
 
-sized : (s : tie.Start) → Lent (s .args .p) (s .args .n) (s .args .l) (long s) (rowsDue (s .args .n) (s .args .l))
-    → Sized (s .args .n) (s .args .selectors .now) (s .args .labels .now) (s .args .witness .now) (s .args .publics .now) (s .args .z .now) (s .args .challenges .now)
-sized s lent =
+countable : (s : tie.Start) → Lent (s .args .p) (s .args .n) (s .args .l) (long s) (rowsDue (s .args .n) (s .args .l))
+    → Countable (s .args .n) (s .args .selectors .now) (s .args .labels .now) (s .args .witness .now) (s .args .publics .now) (s .args .z .now) (s .args .challenges .now)
+countable s lent =
     let small : s .args .n ≤ 1024 = rows-power _ _ (lent .admissible .rows) .small in
     let least : s .args .l ≤ s .args .n = lent .publics-few in
     let a : length (s .args .selectors .now) ≡ selectorsLength (s .args .n) = cc (lent .lengths) in
@@ -44,7 +44,7 @@ slice-aggregate-decide-filled-2 c = search needs
 decide-filled-requires : tie.Need-decide-filled-requires
 decide-filled-requires c κs =
     let s = c .before .before .before .before .before .before .before .before .before in
-    rw (c .before .before .rows .ensures) ((omega arith, omega arith), sized s)
+    rw (c .before .before .rows .ensures) ((omega arith, omega arith), countable s)
 
 returns : tie.Need-returns
 returns c =
