@@ -63,6 +63,9 @@ array-share-prefix-text c = text-fits (c .before .before)
 slice-aggregate-print-lines-2 : tie.Need-slice-aggregate-print-lines-2
 slice-aggregate-print-lines-2 c = sym (length-take-le _ _ (text-fits (c .before .before .before)))
 
+print-lines-requires : tie.Need-print-lines-requires
+print-lines-requires c κs = search needs
+
 returns-3 : tie.Need-returns-3
 returns-3 c = search needs
 
@@ -86,4 +89,5 @@ judge-filed-spec =
     slice-aggregate-print-lines
     array-share-prefix-text
     slice-aggregate-print-lines-2
+    print-lines-requires
     returns-3)
