@@ -1,5 +1,7 @@
 -- Laws of the lines that are put from the tables.
 --
+-- line-part        a part of a table is a line of it, nothing being raised
+-- line-plain       a line that ends before the field of the labels is the same, whatever they are raised by
 -- lines-none, lines-turn   lines put one after the other: none, and one more
 -- source-first, source-second   the enum says from which sheet a row comes
 -- first-below, second-below     and its row is below n
@@ -9,26 +11,51 @@
 -- row-long, public-long         how long a line of a row is, and that of a public input
 --
 -- Assumes nothing.
-use mathlib.Core.Path.{_≡_, sym, ap, subst}
+use mathlib.Core.Path.{_≡_, refl, sym, ap, subst, _∙_}
 use mathlib.Core.Logic.{_⊎_, inl, inr}
-use mathlib.Core.Bool.{Bool, true, false, true≢false}
+use mathlib.Core.Bool.{Bool, true, false, cond, true≢false}
 use mathlib.Core.List.{List}
-use Prim.Native.Nat.{ℕ, _+_, _*_, _≤_, _<_}
+use Prim.Native.Nat.{ℕ, _+_, _*_, _-_, _≤_, _<_}
 use native.Mathlib.Numerals.{add-one}
 use native.Mathlib.Omega.{arith}
-use lib.ListN.{length}
-use Rattle.algebra.specs.Tables.{length-tab}
+use lib.Dec.{ltb}
+use lib.ListN.{length, getD, take, drop, length-take, length-drop}
+use lib.Seq.{getD-take, getD-drop}
+use borrow.Author.Tests.{lt-ltb}
+use Rattle.algebra.specs.Lists.{tab}
+use Rattle.algebra.specs.Tables.{length-tab, tab-getD, tab-ext}
 use Rattle.transform.specs.Parts.{laid}
 use Rattle.text.specs.Text.{lineOf}
 use Rattle.text.specs.Puts.{fieldBytes, Puts, puts-none, puts-both}
 use Rattle.sheet.specs.Sheet.{labelField, gateFields}
-use Rattle.sheet.specs.Table.{tableLines, tableLength}
+use Rattle.sheet.specs.Table.{tableLines, tableLength, tablePlace}
 use Rattle.sheet.specs.Fits.{line-long}
 use Rattle.joining.specs.declared.rows.Source.{Source}
 use Rattle.joining.specs.declared.rows.Source.the-variants.{First, Second}
 use Rattle.joining.specs.Joining.{sourceRow, fromRow}
 use Rattle.joining.specs.Rows.{Below, source-below}
-use Rattle.joining.specs.Lines.{sourceAs, lineIn, Raisable, rowIn, RowLines, Tables, publicIn}
+use Rattle.joining.specs.Lines.{sourceAs, numberIn, lineIn, Raisable, rowIn, RowLines, Tables, publicIn}
+
+-- A LINE OF A TABLE
+
+pub line-part : (t : List ℕ) (i k from to : ℕ) → from ≡ tablePlace i 0 → to ≡ tablePlace i k → tablePlace i k ≤ length t → take (to - from) (drop from t) ≡ lineIn 0 t i k
+line-part t i k from to e f room =
+    let part : List ℕ = take (to - from) (drop from t) in
+    let long : length part ≡ k = simp (length-take, length-drop) (omega arith) in
+    sym (tab-getD part)
+    ∙ ap (tab (λ j. getD part j 0)) long
+    ∙ tab-ext (λ j. getD part j 0) (numberIn 0 t i) k (λ j h.
+    getD-take (to - from) (drop from t) j 0 (omega arith)
+    ∙ getD-drop from t j 0
+    ∙ ap (λ (m : ℕ). getD t m 0) (omega arith)
+    ∙ either (ltb j labelField) (getD t (tablePlace i j) 0))
+  where
+    either : (b : Bool) (x : ℕ) → x ≡ cond b x (0 + x)
+    either true x = refl
+    either false x = omega arith
+
+pub line-plain : (raise : ℕ) (t : List ℕ) (i k : ℕ) → k ≤ labelField → lineIn 0 t i k ≡ lineIn raise t i k
+line-plain raise t i k few = tab-ext (numberIn 0 t i) (numberIn raise t i) k (λ j h. rw (lt-ltb j labelField (omega arith)))
 
 -- LINES ONE AFTER THE OTHER
 

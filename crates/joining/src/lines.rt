@@ -6,7 +6,7 @@ ghost use Rattle.transform.specs.Parts.{laid};
 ghost use Rattle.text.specs.Text.{lineOf};
 ghost use Rattle.text.specs.Puts.{fieldBytes, Puts};
 ghost use Rattle.sheet.specs.Sheet.{sheetRows};
-ghost use Rattle.sheet.specs.Table.{tableLength};
+ghost use Rattle.sheet.specs.Table.{lineWords, tableLines, tableLength};
 ghost use Rattle.joining.specs.Lines.{Raisable, RowLines, Tables, numberIn, lineIn, rowIn, publicIn, tableText};
 use super::rows::Source;
 use super::rows::source_of;
@@ -36,13 +36,37 @@ fn copy_line(table: &[u32], i: usize, raise: u32, line: &mut [u32])
 }
 
 // Line i of a table, which has k numbers, the labels raised.
-fn put_words(table: &[u32], i: usize, k: usize, raise: u32, out: &mut [u8], at: usize) -> usize
+fn put_raised(table: &[u32], i: usize, k: usize, raise: u32, out: &mut [u8], at: usize) -> usize
     requires { ⌜ Raisable raise (now table) i k × (0 < k) × (at + fieldBytes * k ≤ length (now out)) ⌝ }
     ensures { λ r. ⌜ Puts at (lineOf (lineIn raise (now (table .entry)) i k)) (now (out .entry)) r (now (out .exit)) ⌝ }
 {
     let mut line = sheet::line_room();
     copy_line(table, i, raise, &mut line[..k]);
     text::put_numbers(&line[..k], out, at)
+}
+
+// The same, nothing being raised: the line is put from the table as it stands.
+fn put_plain(table: &[u32], i: usize, k: usize, out: &mut [u8], at: usize) -> usize
+    requires { ⌜ (length (now table) ≡ tableLength) × (i < tableLines) × (k ≤ lineWords) × (0 < k) × (at + fieldBytes * k ≤ length (now out)) ⌝ }
+    ensures { λ r. ⌜ Puts at (lineOf (lineIn 0 (now (table .entry)) i k)) (now (out .entry)) r (now (out .exit)) ⌝ }
+{
+    let from = sheet::table_place(i, 0);
+    let to = sheet::table_place(i, k);
+    text::put_numbers(&table[from..to], out, at)
+}
+
+// Line i of a table, which has k numbers, the labels raised. A line that ends before the labels has none.
+fn put_words(table: &[u32], i: usize, k: usize, raise: u32, out: &mut [u8], at: usize) -> usize
+    requires { ⌜ Raisable raise (now table) i k × (0 < k) × (at + fieldBytes * k ≤ length (now out)) ⌝ }
+    ensures { λ r. ⌜ Puts at (lineOf (lineIn raise (now (table .entry)) i k)) (now (out .entry)) r (now (out .exit)) ⌝ }
+{
+    if k <= sheet::LABEL_FIELD {
+        return put_plain(table, i, k, out, at);
+    }
+    if raise == 0 {
+        return put_plain(table, i, k, out, at);
+    }
+    put_raised(table, i, k, raise, out, at)
 }
 
 // The line of row i, which has k numbers: that of the row it comes from, where row 0 of either sheet stands on line `start`. The labels of the second
