@@ -16,5 +16,5 @@ pub fn public_at(p: u32, n: u32, publics: &[u32], x: u32, scratch: &mut [u32]) -
     let m = n as usize;
     let mut xs = field::rows_room();
     circuit::public_polynomial(p, n, publics, &mut xs[..m], &mut scratch[..m]);
-    transform::slices::horner(p, &xs[..m], x)
+    polynomials::horner(p, &xs[..m], x)
 }

@@ -3,6 +3,5 @@ pub mod Transform
 pub mod Passes
 pub mod Points
 pub mod Buffers
-pub mod Products
 pub mod Interpolation
 pub mod Parts

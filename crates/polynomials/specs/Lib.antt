@@ -1,0 +1,2 @@
+-- Definitions, then theorems.
+pub mod Products
