@@ -3,7 +3,7 @@
 -- bytes        the sheet
 -- without i, with i more   the sheet with byte i left out, and with more bytes before byte i
 -- publicBytes, changed i b, twoPublic   the sheet with row 0 made a public row; that sheet with another byte i; that sheet with l = 2
--- over97, rows64   the sheet over 97; a first line of 64 rows over 97, with nothing behind it
+-- over97, rows64, rows512   the sheet over 97; a first line of 64 rows over 97, and of 512 rows over the largest prime, with nothing behind it
 -- Worked, worked   what is read off the sheet, and the answers to it and to sheets near it; that they are so
 --
 -- Assumes nothing.
@@ -60,12 +60,15 @@ changed i b = take i publicBytes ++ (b ∷ drop (suc i) publicBytes)
 abbrev pub twoPublic : List ℕ
 twoPublic = take 55 (changed 5 50) ++ (54 ∷ 10 ∷ drop 55 publicBytes)
 
--- 9 in place of the 1 of 17; and 97,64,0
+-- 9 in place of the 1 of 17; 97,64,0; and 2013265921,512,0
 abbrev pub over97 : List ℕ
 over97 = 57 ∷ drop 1 bytes
 
 abbrev pub rows64 : List ℕ
 rows64 = 57 ∷ 55 ∷ 44 ∷ 54 ∷ 52 ∷ 44 ∷ 48 ∷ 10 ∷ []
+
+abbrev pub rows512 : List ℕ
+rows512 = 50 ∷ 48 ∷ 49 ∷ 51 ∷ 50 ∷ 54 ∷ 53 ∷ 57 ∷ 50 ∷ 49 ∷ 44 ∷ 53 ∷ 49 ∷ 50 ∷ 44 ∷ 48 ∷ 10 ∷ []
 
 pub record Worked : Type 0 where
   pub p-is : sheetP bytes ≡ 17
@@ -83,9 +86,10 @@ pub record Worked : Type 0 where
   -- the first line without its byte 10, and with a zero before 17
   pub first-open : readAnswer (without 6) ≡ record { number = 1; detail = 0 }
   pub first-zero : readAnswer (with 0 (48 ∷ [])) ≡ record { number = 1; detail = 0 }
-  -- 187 for 17; 3 rows; 3 public inputs
+  -- 187 for 17; 3 rows; 512 rows, which the largest prime has, but no sheet; 3 public inputs
   pub no-prime : readAnswer (with 1 (56 ∷ [])) ≡ record { number = 2; detail = 0 }
   pub no-power : readAnswer (49 ∷ 55 ∷ 44 ∷ 51 ∷ 44 ∷ 48 ∷ 10 ∷ []) ≡ record { number = 3; detail = 0 }
+  pub many-rows : readAnswer rows512 ≡ record { number = 3; detail = 0 }
   pub many : readAnswer (49 ∷ 55 ∷ 44 ∷ 50 ∷ 44 ∷ 51 ∷ 10 ∷ []) ≡ record { number = 4; detail = 0 }
   -- the last line without its byte 10; a byte behind it; a zero before the first number of line 2
   pub last-open : readAnswer (without 61) ≡ record { number = 5; detail = 6 }
@@ -135,6 +139,7 @@ worked =
       first-zero = refl;
       no-prime = refl;
       no-power = refl;
+      many-rows = refl;
       many = refl;
       last-open = refl;
       extra = refl;
