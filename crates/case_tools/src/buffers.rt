@@ -3,25 +3,20 @@ ghost use mathlib.Core.Path.{_≡_};
 ghost use Prim.Native.Nat.{_≤_};
 ghost use lib.ListN.{length, take};
 
-// Room for the elements of a call.
-pub fn short() -> [u32; 2048]
-    ensures { λ r. ⌜ 2048 ≡ length r ⌝ }
-{
-    [0; 2048]
-}
+// A buffer with room for a circuit and all that belongs to it, or for a scratch, of 1,024 rows.
+pub type Words = [u32; 32768];
 
-// Room for the selectors, a prepared circuit or a transcript.
-pub fn middle() -> [u32; 8192]
-    ensures { λ r. ⌜ 8192 ≡ length r ⌝ }
-{
-    [0; 8192]
-}
-
-// Room for a scratch.
-pub fn long() -> [u32; 32768]
+pub fn room() -> Words
     ensures { λ r. ⌜ 32768 ≡ length r ⌝ }
 {
     [0; 32768]
+}
+
+// A buffer that stands behind a reference, of which it is then known how long it is.
+pub fn copy(words: Words) -> Words
+    ensures { λ r. ⌜ 32768 ≡ length r ⌝ }
+{
+    words
 }
 
 // How many of the first n words there are: n, or the length where that is less. The second fact follows from the first, and lends
@@ -30,6 +25,39 @@ pub fn within(xs: &[u32], n: usize) -> usize
     ensures { λ r. ⌜ (r ≤ length (now (xs .entry))) × (r ≡ length (take r (now (xs .entry)))) ⌝ }
 {
     if n < xs.len() { n } else { xs.len() }
+}
+
+// So many words from a place on, or those that there are.
+pub fn part(xs: &[u32], place: usize, count: usize) -> &[u32] {
+    let a = within(xs, place);
+    let rest = &xs[a..];
+    let k = within(rest, count);
+    &rest[..k]
+}
+
+// The first so many words, to be written.
+pub fn first(xs: &mut [u32], count: usize) -> &mut [u32] {
+    let k = within(xs, count);
+    &mut xs[..k]
+}
+
+// The word at a place, and 0 past the end.
+pub fn at(xs: &[u32], place: usize) -> u32 {
+    if place < xs.len() { xs[place] } else { 0 }
+}
+
+// x at a place, where the buffer has that place.
+pub fn put(xs: &mut [u32], place: usize, x: u32) {
+    if place < xs.len() {
+        xs[place] = x;
+    }
+}
+
+// Words written from a place on, as many as there is room for.
+pub fn lay(xs: &[u32], out: &mut [u32], place: usize) {
+    for i in 0..xs.len() {
+        put(out, std::num::wrapping_add_usize(place, i), xs[i]);
+    }
 }
 
 // Numbers from `first` on, each `step` more than the one before.
@@ -41,30 +69,25 @@ pub fn progression(xs: &mut [u32], first: u32, step: u32) {
     }
 }
 
-// Distinct numbers, upward from `first`.
-pub fn mark(xs: &mut [u32], first: u32) {
-    progression(xs, first, 1);
-}
-
-// Whether `mark` would change nothing.
-pub fn is_marked(xs: &[u32], first: u32) -> bool {
+// Whether `progression` would change nothing.
+pub fn is_progression(xs: &[u32], first: u32, step: u32) -> bool {
     let mut x = first;
     for i in 0..xs.len() {
         if xs[i] != x {
             return false;
         }
-        x = std::num::wrapping_add_u32(x, 1);
+        x = std::num::wrapping_add_u32(x, step);
     }
     true
 }
 
-pub fn is_zero(xs: &[u32]) -> bool {
-    for i in 0..xs.len() {
-        if xs[i] != 0 {
-            return false;
-        }
-    }
-    true
+// A buffer of distinct numbers that no result has: what is lent to a call that is to write it.
+pub fn marked() -> Words
+    ensures { λ r. ⌜ 32768 ≡ length r ⌝ }
+{
+    let mut xs = room();
+    progression(&mut xs, 3000000000, 1);
+    xs
 }
 
 pub fn same(xs: &[u32], ys: &[u32]) -> bool {
@@ -79,50 +102,58 @@ pub fn same(xs: &[u32], ys: &[u32]) -> bool {
     true
 }
 
-// The number after x in a fixed sequence that looks random.
-fn next(x: u32) -> u32 {
+// a + b × c modulo p, and 0 for p = 0.
+pub fn mul_add(p: u32, a: u32, b: u32, c: u32) -> u32 {
+    if p == 0 {
+        return 0;
+    }
+    field::mul_add(p, a, b, c)
+}
+
+// The words with the last one before `end` raised by one modulo p.
+pub fn raised(p: u32, mut words: Words, end: usize) -> Words {
+    let place = std::num::wrapping_sub_usize(end, 1);
+    let x = mul_add(p, 1, 1, at(&words, place));
+    put(&mut words, place, x);
+    words
+}
+
+// The number after x in a fixed sequence that looks random: one for circuits, another for what is no circuit.
+pub fn next(circuit: bool, x: u32) -> u32 {
+    if circuit {
+        let y = (x as u64 * 48271 + 11) % 2147483647;
+        return y as u32;
+    }
     let y = (x as u64 * 1664525 + 1013904223) % 4294967296;
     y as u32
 }
 
-// x modulo p, or 0 for p = 0.
-fn modulo(p: u32, x: u32) -> u32 {
-    if p == 0 { 0 } else { x % p }
-}
-
-// Numbers below p, from the fixed sequence.
-pub fn fill(p: u32, xs: &mut [u32]) {
-    let mut x = p;
+// Numbers below p: those behind `first` in a sequence.
+pub fn fill(circuit: bool, p: u32, first: u32, xs: &mut [u32]) {
+    let mut x = first;
     for i in 0..xs.len() {
-        x = next(x);
-        xs[i] = modulo(p, x);
+        x = next(circuit, x);
+        xs[i] = mul_add(p, x, 0, 0);
     }
 }
 
-// x at a place, where the buffer has that place.
-pub fn put(xs: &mut [u32], place: usize, x: u32) {
-    if place < xs.len() {
-        xs[place] = x;
-    }
+// As many numbers below p that look random as there is room for.
+pub fn random(p: u32) -> Words {
+    let mut xs = room();
+    fill(false, p, p, &mut xs);
+    xs
 }
 
-// The word at a place raised by one modulo p, where the buffer has that place.
-pub fn raise(p: u32, xs: &mut [u32], place: usize) {
-    if place < xs.len() {
-        xs[place] = modulo(p, std::num::wrapping_add_u32(xs[place], 1));
-    }
+// A number below p that looks random.
+pub fn draw(p: u32, seed: u32) -> u32 {
+    mul_add(p, next(true, next(true, seed)), 0, 0)
 }
 
 // A number that depends on every word and on their order.
 pub fn digest(xs: &[u32]) -> u32 {
     let mut d: u32 = 0;
     for i in 0..xs.len() {
-        d = digest_step(d, xs[i]);
+        d = mul_add(1000003, xs[i], 31, d);
     }
     d
-}
-
-fn digest_step(d: u32, x: u32) -> u32 {
-    let y = (d as u64 * 31 + x as u64) % 1000003;
-    y as u32
 }

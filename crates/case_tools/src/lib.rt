@@ -1,5 +1,4 @@
-// What the test programs share: lines of input and of output, files that arguments name, and buffers to lend.
+// What the test programs share: buffers to lend, lines of output, and a circuit with all that belongs to it in one buffer, on which the calls are made.
 pub mod buffers;
-pub mod files;
-pub mod lines;
+pub mod circuits;
 pub mod print;

@@ -1,4 +1,5 @@
 // Lines of output: a label, then words and numbers with a comma before each.
+use super::buffers;
 use field::Answer;
 
 // Bytes as they are: a label at a line's start.
@@ -32,10 +33,26 @@ pub fn numbers(xs: &[u32]) {
     }
 }
 
+// A line's start: a label and numbers.
+pub fn heading(label: &[u8], xs: &[u32]) {
+    text(label);
+    numbers(xs);
+}
+
 // An answer's number and its detail.
 pub fn answer(a: Answer) {
-    number(a.number);
-    number(a.detail);
+    numbers(&[a.number, a.detail]);
+}
+
+// What became of a part of a marked buffer: `kept`, `cleared`, or a digest of what was written.
+pub fn left(xs: &[u32]) {
+    if buffers::is_progression(xs, 3000000000, 1) {
+        word(b"kept");
+    } else if buffers::is_progression(xs, 0, 0) {
+        word(b"cleared");
+    } else {
+        number(buffers::digest(xs));
+    }
 }
 
 // The line's end.

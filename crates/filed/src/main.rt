@@ -9,41 +9,107 @@
 // taken as a new one.
 ghost use Prim.Native.Nat.{_≤_};
 ghost use lib.ListN.{length};
-ghost use Rattle.io.specs.Counts.{Counts};
 use case_tools::buffers;
-use case_tools::files;
-use case_tools::lines;
+use case_tools::buffers::Words;
+use case_tools::circuits;
+use case_tools::circuits::Shape;
 use case_tools::print;
+use pointcheck::Judged;
 use streams::Got;
 
-mod checks;
-
-// The coefficients on a line of a text, which stand behind a letter and a comma, at the start of `out`; how many there are.
-fn polynomial(text: &[u8], line: usize, out: &mut [u32]) -> usize
-    requires { ⌜ length (now text) ≤ 65536 ⌝ }
-    ensures { λ r. ⌜ Counts r (now (out .exit)) ⌝ }
-{
-    let at = lines::start(text, line);
-    if text.len() - at < 2 {
-        return 0;
+// Whether these bytes stand at a place of a text.
+fn says(text: &[u8], at: usize, bytes: &[u8]) -> bool {
+    if text.len() < at {
+        return false;
     }
-    lines::numbers(text, at + 2, out)
+    let rest = &text[at..];
+    if rest.len() < bytes.len() {
+        return false;
+    }
+    for i in 0..bytes.len() {
+        if rest[i] != bytes[i] {
+            return false;
+        }
+    }
+    true
 }
 
-// The transcript of a text: a, b, c, z and t end to end, at the start of `out`; how many numbers it has.
-fn transcript(text: &[u8], out: &mut [u32]) -> usize
+// The coefficients of a polynomial, which stand on a line behind a letter and a comma, written from a place on; where the next line starts.
+fn polynomial(text: &[u8], at: usize, words: &mut [u32], place: usize, count: usize) -> usize
     requires { ⌜ length (now text) ≤ 65536 ⌝ }
-    ensures { λ r. ⌜ Counts r (now (out .exit)) ⌝ }
 {
-    let mut k = 0;
-    for line in 0..5 {
-        k += polynomial(text, line, &mut out[k..]);
+    let mut read = buffers::room();
+    let k = buffers::within(&read, count);
+    if k == 0 || text.len() < 2 || text.len() - 2 < at {
+        return at;
     }
-    k
+    let line = text::line(text, at + 2, &mut read[..k]);
+    buffers::lay(&read[..k], words, place);
+    line.next
 }
 
-// The lines of a deposit, behind the sheet's name. Its text has this transcript.
-fn judge(sheet: &[u8], text: &[u8], filed: &[u32]) {
+// The transcript of a text: a, b, c, z and t; where the verdict stands behind them.
+fn transcript(s: Shape, text: &[u8], words: &mut [u32]) -> usize
+    requires { ⌜ length (now text) ≤ 65536 ⌝ }
+{
+    let n = s.n as usize;
+    let b = polynomial(text, 0, words, circuits::TRANSCRIPT, n);
+    let c = polynomial(text, b, words, circuits::TRANSCRIPT + n, n);
+    let z = polynomial(text, c, words, circuits::TRANSCRIPT + 2 * n, n);
+    let t = polynomial(text, z, words, circuits::TRANSCRIPT + 3 * n, n);
+    let long = circuit::quotient_length(n);
+    polynomial(text, t, words, circuits::TRANSCRIPT + 4 * n, long)
+}
+
+// Whether a text has this verdict at a place.
+fn is_due(text: &[u8], at: usize, v: Judged) -> bool {
+    match v {
+        Judged::None => false,
+        Judged::Accept => says(text, at, b"accept\n"),
+        Judged::Reject => says(text, at, b"reject\n"),
+    }
+}
+
+// The line on the sheet as a new one: what `prove` answers, the first 12 bytes of what `deposit` prints, and what `join` answers where the sheet is joined to itself.
+fn print_new(s: Shape, words: &Words, sheet: &[u8]) {
+    let mut transcript = buffers::room();
+    let mut scratch = buffers::room();
+    let mut text = archive::text_room();
+    let mut joined = joining::joined_room();
+    let proved = circuits::prove(s, words, &mut transcript, &mut scratch);
+    print::text(b"as a new sheet,prove");
+    print::answer(proved);
+    archive::deposit(sheet, &mut text);
+    print::word(b"deposit");
+    print::word(&text[..12]);
+    let made = joining::join(sheet, sheet, &mut joined);
+    let answer = made.answer;
+    print::word(b"join");
+    print::answer(answer);
+    print::end();
+}
+
+// The lines of a deposit, from p on. The filed verdict stands at a place of its text.
+fn print_lines(s: Shape, words: &Words, sheet: &[u8], text: &[u8], at: usize) {
+    let end = circuits::WITNESS + 3 * (s.n as usize);
+    let v = circuits::point(s, words);
+    print::numbers(&[s.p, s.n, s.l]);
+    circuits::print_judged(v);
+    print::either(is_due(text, at, v), b"as filed", b"NOT AS FILED");
+    circuits::print_points(s, words);
+    circuits::print_rows(s, words);
+    circuits::change_t(s, words);
+    print::heading(b"last content changed", &[s.p, s.n, s.l]);
+    circuits::print_rows(s, &buffers::raised(s.p, *words, end));
+    circuits::every_polynomial(s, words);
+    print_new(s, words, sheet);
+}
+
+// The lines of a deposit, behind the sheet's name.
+fn judge(sheet: &[u8], text: &[u8])
+    requires { ⌜ length (now text) ≤ 65536 ⌝ }
+{
+    let mut words = buffers::room();
     let mut selectors = [0u32; 1280];
     let mut labels = [0u32; 768];
     let mut witness = [0u32; 768];
@@ -57,61 +123,24 @@ fn judge(sheet: &[u8], text: &[u8], filed: &[u32]) {
         &mut publics,
         &mut challenges,
     );
-    let n = found.n as usize;
-    let a = buffers::within(&selectors, 5 * n);
-    let b = buffers::within(&labels, 3 * n);
-    let c = buffers::within(&witness, 3 * n);
-    let d = buffers::within(&publics, found.l as usize);
-    print::answer(found.answer);
-    checks::lines(
-        found.p,
-        found.n,
-        found.l,
-        &selectors[..a],
-        &labels[..b],
-        &witness[..c],
-        &publics[..d],
-        filed,
-        &challenges,
-        text,
-    );
-    checks::print_new(
-        sheet,
-        found.p,
-        found.n,
-        found.l,
-        &selectors[..a],
-        &labels[..b],
-        &witness[..c],
-        &publics[..d],
-        &challenges,
-    );
+    let answer = found.answer;
+    let s = Shape {
+        p: found.p,
+        n: found.n,
+        l: found.l,
+    };
+    buffers::lay(&selectors, &mut words, 0);
+    buffers::lay(&labels, &mut words, circuits::LABELS);
+    buffers::lay(&witness, &mut words, circuits::WITNESS);
+    buffers::lay(&publics, &mut words, circuits::PUBLICS);
+    buffers::lay(&challenges, &mut words, circuits::CHALLENGES);
+    let at = transcript(s, text, &mut words);
+    print::answer(answer);
+    print_lines(s, &circuits::prepared(s, &words), sheet, text, at);
 }
 
-// The lines of a deposit, behind the name of its sheet, which is argument i. False where that cannot be printed, which is told.
-fn print_judged(i: usize, sheet: &[u8], text: &[u8]) -> bool
-    requires { ⌜ length (now text) ≤ 65536 ⌝ }
-{
-    if !files::print_name(i) {
-        return false;
-    }
-    let mut filed = buffers::short();
-    let k = transcript(text, &mut filed);
-    judge(sheet, text, &filed[..k]);
-    true
-}
-
-// The same, for a text of any length. One that is longer than the text of any deposit is told, and not judged.
-fn print_lines(i: usize, sheet: &[u8], text: &[u8]) -> bool {
-    if archive::TEXT_LENGTH < text.len() {
-        streams::tell(b"a text is longer than that of any deposit\n");
-        return false;
-    }
-    print_judged(i, sheet, text)
-}
-
-// The deposit whose sheet argument i names, and whose text the next one does. False where one of them cannot be read, or not be judged, or the name not
-// printed: what failed is told.
+// The deposit whose sheet argument i names, and whose text the next one does, behind the sheet's name. False where one of them cannot be read, the text is
+// longer than that of any deposit, or the name cannot be printed: what failed is told.
 fn judge_filed(i: usize, next: usize) -> bool {
     let mut sheet = sheet::sheet_room();
     let Got::Bytes(n) = streams::read_file(i, &mut sheet) else {
@@ -121,11 +150,22 @@ fn judge_filed(i: usize, next: usize) -> bool {
     let Got::Bytes(m) = streams::read_file(next, &mut text) else {
         return false;
     };
-    print_lines(i, &sheet[..n], &text[..m])
+    if archive::TEXT_LENGTH < m {
+        streams::tell(b"a text is longer than that of any deposit\n");
+        return false;
+    }
+    let mut name = io::buffer();
+    let k = os::arg(i, &mut name);
+    if !streams::print(&name[..k]) {
+        return false;
+    }
+    judge(&sheet[..n], &text[..m]);
+    true
 }
 
 fn main() {
-    let end = files::count();
+    let count = os::arg_count();
+    let end = if count < 65536 { count } else { 0 };
     if end < 3 || end % 2 == 0 {
         streams::tell(
             b"filed takes the names of two files for each deposit, its sheet and its text\n",

@@ -6,55 +6,19 @@ use borrow.Author.Needs.{needs}
 use Rattle.case_tools.proofs.buffers.fill.Statement.{statement}
 use Rattle.case_tools.proofs.buffers.fill.Tie as tie
 
-abbrev Inv-loop : tie.InvT-loop
-Inv-loop p xs₀ x₀ i₀ i-end xs x i = (i-end ≤ length xs₀) × (length xs ≡ length xs₀)
-
-abbrev μ-loop : tie.MeasureT-loop
-μ-loop p xs₀ x₀ i₀ i-end xs x i = i-end - i
-
-loop-holds : tie.Need-loop-holds Inv-loop μ-loop
-loop-holds c = search needs
-
-next-requires : tie.Need-next-requires Inv-loop μ-loop
-next-requires c κs = search needs
-
-modulo-requires : tie.Need-modulo-requires Inv-loop μ-loop
-modulo-requires c κs = search needs
-
-mul-xs : tie.Need-mul-xs Inv-loop μ-loop
-mul-xs c = search needs
-
-slice-write-xs : tie.Need-slice-write-xs Inv-loop μ-loop
-slice-write-xs c = search needs
-
-add-i : tie.Need-add-i Inv-loop μ-loop
-add-i c = search needs
-
-loop-less : tie.Need-loop-less Inv-loop μ-loop
-loop-less c = search needs
-
-loop-again : tie.Need-loop-again Inv-loop μ-loop
-loop-again c = search needs
-
-same-length : tie.Need-same-length Inv-loop μ-loop
-same-length c = search needs
-
-returns : tie.Need-returns Inv-loop μ-loop
-returns c = search needs
-
 pub fill-spec : {M : Type 1} → statement M
 fill-spec =
     tie.close
     (tie.spec
-    Inv-loop
-    μ-loop
-    loop-holds
-    next-requires
-    modulo-requires
-    mul-xs
-    slice-write-xs
-    add-i
-    loop-less
-    loop-again
-    same-length
-    returns)
+    (λ circuit p first xs₀ x₀ i₀ i-end xs x i. (i-end ≤ length xs₀) × (length xs ≡ length xs₀))
+    (λ circuit p first xs₀ x₀ i₀ i-end xs x i. i-end - i)
+    (λ c. search needs)
+    (λ c κs. search needs)
+    (λ c κs. search needs)
+    (λ c. search needs)
+    (λ c. search needs)
+    (λ c. search needs)
+    (λ c. search needs)
+    (λ c. search needs)
+    (λ c. search needs)
+    (λ c. search needs))

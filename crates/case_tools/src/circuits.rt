@@ -1,0 +1,289 @@
+// A circuit, what it is filled with, and what was made of it, in one buffer, each part at a place of its own with room for 1,024 rows; and the calls on it.
+ghost use Prim.Native.Nat.{_<_};
+use super::buffers;
+use super::buffers::Words;
+use super::buffers::first;
+use super::buffers::part;
+use super::print;
+use field::Answer;
+use pointcheck::Judged;
+use rowcheck::Identity;
+use rowcheck::Verdict;
+
+// The numbers of a call.
+pub struct Shape {
+    pub p: u32,
+    pub n: u32,
+    pub l: u32,
+}
+
+// Where the parts stand. The selectors come first.
+pub const LABELS: usize = 5120;
+
+pub const WITNESS: usize = 8192;
+
+pub const PUBLICS: usize = 11264;
+
+pub const PREPARED: usize = 12288;
+
+pub const TRANSCRIPT: usize = 20480;
+
+pub const CHALLENGES: usize = 27648;
+
+// The polynomials that are opened: all, the last first.
+const LIST: [u32; 13] = [12, 11, 10, 9, 8, 7, 6, 5, 4, 3, 2, 1, 0];
+
+// The transcript.
+pub fn transcript(s: Shape, words: &Words) -> &[u32] {
+    part(words, TRANSCRIPT, circuit::transcript_length(s.n as usize))
+}
+
+// What `prove` answers.
+pub fn prove(s: Shape, words: &Words, transcript: &mut [u32], scratch: &mut [u32]) -> Answer {
+    let n = s.n as usize;
+    prover::prove(
+        s.p,
+        s.n,
+        s.l,
+        part(words, 0, 5 * n),
+        part(words, LABELS, 3 * n),
+        part(words, WITNESS, 3 * n),
+        part(words, PUBLICS, s.l as usize),
+        first(transcript, circuit::transcript_length(n)),
+        part(words, CHALLENGES, 3),
+        first(scratch, 16 * n),
+    )
+}
+
+// A copy with the prepared circuit.
+pub fn prepared(s: Shape, words: &Words) -> Words {
+    let n = s.n as usize;
+    let k = 8 * n;
+    let mut written = buffers::room();
+    let mut scratch = buffers::room();
+    let mut changed = buffers::copy(*words);
+    preparing::prepare(
+        s.p,
+        s.n,
+        s.l,
+        part(words, 0, 5 * n),
+        part(words, LABELS, 3 * n),
+        first(&mut written, k),
+        first(&mut scratch, 16 * n),
+    );
+    buffers::lay(part(&written, 0, k), &mut changed, PREPARED);
+    changed
+}
+
+pub fn is_accept(v: Judged) -> bool {
+    match v {
+        Judged::Accept => true,
+        _ => false,
+    }
+}
+
+pub fn print_judged(v: Judged) {
+    match v {
+        Judged::None => print::word(b"none"),
+        Judged::Accept => print::word(b"accept"),
+        Judged::Reject => print::word(b"reject"),
+    }
+}
+
+// The point check's verdict.
+pub fn point(s: Shape, words: &Words) -> Judged {
+    let n = s.n as usize;
+    let mut scratch = buffers::room();
+    let r = pointcheck::check_point(
+        s.p,
+        s.n,
+        s.l,
+        part(words, PUBLICS, s.l as usize),
+        part(words, PREPARED, 8 * n),
+        transcript(s, words),
+        part(words, CHALLENGES, 4),
+        first(&mut scratch, 16 * n),
+    );
+    r.verdict
+}
+
+// How many zetas are tried: all of them over the two small primes.
+fn tried(s: Shape) -> u32 {
+    if s.p <= 97 {
+        return s.p;
+    }
+    if s.n <= 64 { 8 } else { 4 }
+}
+
+// The point of row 1 over the largest prime.
+fn root(p: u32, n: u32) -> u32
+    requires { ⌜ 97 < p ⌝ }
+{
+    if n == 0 {
+        return 0;
+    }
+    field::pow(p, 31, (p - 1) / n)
+}
+
+// The zeta of a try. Over the largest prime they are 0, the points of rows 0 and 1, and numbers that look random.
+fn zeta(s: Shape, k: u32) -> u32 {
+    let p = s.p;
+    if p <= 97 {
+        return k;
+    }
+    match k {
+        0 | 1 => k,
+        2 => root(p, s.n),
+        _ => buffers::draw(p, k),
+    }
+}
+
+// The verdict with this zeta is accept.
+fn accepts(s: Shape, mut words: Words, zeta: u32) -> bool {
+    words[CHALLENGES + 3] = zeta;
+    is_accept(point(s, &words))
+}
+
+// At how many of the tried zetas the transcript is accepted.
+pub fn accepted(s: Shape, words: &Words) -> u32 {
+    let mut count: u32 = 0;
+    for k in 0..tried(s) {
+        if accepts(s, *words, zeta(s, k)) {
+            count = std::num::wrapping_add_u32(count, 1);
+        }
+    }
+    count
+}
+
+// The same, `of`, and how many were tried.
+pub fn print_points(s: Shape, words: &Words) {
+    print::number(accepted(s, words));
+    print::word(b"of");
+    print::number(tried(s));
+}
+
+// The line of the transcript with t's first coefficient raised: it is accepted at the rows' points only, of which all n are tried over the two
+// small primes, and two over the largest.
+pub fn change_t(s: Shape, words: &Words) {
+    let end = TRANSCRIPT + 4 * (s.n as usize) + 1;
+    print::heading(b"first coefficient of t changed", &[s.p, s.n, s.l]);
+    print_points(s, &buffers::raised(s.p, *words, end));
+    print::end();
+}
+
+fn print_identity(id: Identity) {
+    match id {
+        Identity::Gate => print::word(b"gate"),
+        Identity::Start => print::word(b"start"),
+        Identity::Step => print::word(b"step"),
+    }
+}
+
+fn print_verdict(v: Verdict) {
+    match v {
+        Verdict::None => print::word(b"none"),
+        Verdict::Pass => print::word(b"pass"),
+        Verdict::Fails(id, row) => {
+            print_identity(id);
+            print::number(row);
+        }
+    }
+}
+
+// The row check's verdict, with z on the rows from its polynomial in the transcript, and the line's end.
+pub fn print_rows(s: Shape, words: &Words) {
+    let n = s.n as usize;
+    let mut z = buffers::room();
+    let mut scratch = buffers::room();
+    let k = 3 * n;
+    let polynomial = part(words, TRANSCRIPT + k, n);
+    let work = first(&mut scratch, 16 * n);
+    transform::evaluate(s.p, s.n, polynomial, first(&mut z, n), work);
+    let r = rowcheck::check_rows(
+        s.p,
+        s.n,
+        s.l,
+        part(words, 0, 5 * n),
+        part(words, LABELS, k),
+        part(words, WITNESS, k),
+        part(words, PUBLICS, s.l as usize),
+        part(&z, 0, n),
+        part(words, CHALLENGES, 2),
+    );
+    let v = r.verdict;
+    print_verdict(v);
+    print::end();
+}
+
+// The numbers that were written, or a digest where they are many.
+fn print_written(xs: &[u32]) {
+    if xs.len() <= 13 {
+        print::word(b"written");
+        print::numbers(xs);
+    } else {
+        print::word(b"digest");
+        print::number(buffers::digest(xs));
+    }
+}
+
+// The line of `open` for every polynomial at 3, with the mixing number 5: the answer, what was written, and what became of the scratch.
+fn open(s: Shape, words: &Words, evaluations: &mut [u32], quotient: &mut [u32]) {
+    let n = s.n as usize;
+    let k = 16 * n;
+    let mut scratch = buffers::marked();
+    let answer = opening::open(
+        s.p,
+        s.n,
+        part(words, PREPARED, 8 * n),
+        transcript(s, words),
+        &LIST,
+        evaluations,
+        quotient,
+        &[3, 5],
+        first(&mut scratch, k),
+    );
+    print::heading(b"every polynomial,open", &[s.p, s.n]);
+    print::answer(answer);
+    print_written(evaluations);
+    print_written(quotient);
+    print::left(part(&scratch, 0, k));
+    print::end();
+}
+
+// The line of `check_opening` there: the answer, the verdict, and what became of the scratch.
+fn check(label: &[u8], s: Shape, words: &Words, evaluations: &[u32], quotient: &[u32]) {
+    let n = s.n as usize;
+    let k = 16 * n;
+    let mut scratch = buffers::marked();
+    let r = opening::check_opening(
+        s.p,
+        s.n,
+        part(words, PREPARED, 8 * n),
+        transcript(s, words),
+        &LIST,
+        evaluations,
+        quotient,
+        &[3, 5],
+        first(&mut scratch, k),
+    );
+    let answer = r.answer;
+    let verdict = r.verdict;
+    print::heading(label, &[s.p, s.n]);
+    print::answer(answer);
+    print_judged(verdict);
+    print::left(part(&scratch, 0, k));
+    print::end();
+}
+
+// Every polynomial opened, and what `open` wrote checked, as it is and with the last evaluation raised.
+pub fn every_polynomial(s: Shape, words: &Words) {
+    let mut values = [0u32; 13];
+    let mut quotient = buffers::room();
+    let a = buffers::within(&quotient, circuit::opening_length(s.n as usize));
+    let q = &mut quotient[..a];
+    open(s, words, &mut values, q);
+    check(b"every polynomial,check", s, words, &values, q);
+    let last = buffers::mul_add(s.p, 1, 1, values[12]);
+    values[12] = last;
+    check(b"last evaluation raised,check", s, words, &values, q);
+}

@@ -1,8 +1,0 @@
-// Cases of the circuit: `circuit::permutation` and `circuit::polynomial`.
-mod parts;
-mod permutations;
-
-pub fn run() {
-    permutations::run();
-    parts::run();
-}
