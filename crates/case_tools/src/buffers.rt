@@ -19,16 +19,19 @@ pub fn copy(words: Words) -> Words
     words
 }
 
-// How many of the first n words there are: n, or the length where that is less. The second fact follows from the first, and lends
+// How many of the first n words there are: n, or the length where that is less. The last fact follows from the one before, and lends
 // `&xs[..r]` with no proof.
 pub fn within(xs: &[u32], n: usize) -> usize
-    ensures { λ r. ⌜ (r ≤ length (now (xs .entry))) × (r ≡ length (take r (now (xs .entry)))) ⌝ }
+    ensures { λ r. ⌜ (r ≤ n) × (r ≤ length (now (xs .entry))) × (r ≡ length (take r (now (xs .entry)))) ⌝ }
 {
     if n < xs.len() { n } else { xs.len() }
 }
 
 // So many words from a place on, or those that there are.
-pub fn part(xs: &[u32], place: usize, count: usize) -> &[u32] {
+pub fn part(words: &Words, place: usize, count: usize) -> &[u32]
+    ensures { λ r. ⌜ length (now r) ≤ count ⌝ }
+{
+    let xs = &words[..];
     let a = within(xs, place);
     let rest = &xs[a..];
     let k = within(rest, count);

@@ -7,10 +7,9 @@
 // the transcript is accepted, `of`, how many were tried, and the row verdict; the same count where the first coefficient of t is changed, and the row
 // verdict where the last content is; `open` and `check_opening` for every polynomial; and what `prove`, `deposit` and `join` answer where the sheet is
 // taken as a new one.
-ghost use Prim.Native.Nat.{_≤_};
-ghost use lib.ListN.{length};
 use case_tools::buffers;
 use case_tools::buffers::Words;
+use case_tools::buffers::part;
 use case_tools::circuits;
 use case_tools::circuits::Shape;
 use case_tools::print;
@@ -35,23 +34,28 @@ fn says(text: &[u8], at: usize, bytes: &[u8]) -> bool {
 }
 
 // The coefficients of a polynomial, which stand on a line behind a letter and a comma, written from a place on; where the next line starts.
-fn polynomial(text: &[u8], at: usize, words: &mut [u32], place: usize, count: usize) -> usize
-    requires { ⌜ length (now text) ≤ 65536 ⌝ }
-{
+fn polynomial(text: &[u8], at: usize, words: &mut [u32], place: usize, count: usize) -> usize {
     let mut read = buffers::room();
     let k = buffers::within(&read, count);
-    if k == 0 || text.len() < 2 || text.len() - 2 < at {
+    if k == 0 {
+        return at;
+    }
+    if archive::TEXT_LENGTH < text.len() {
+        return at;
+    }
+    if text.len() < at {
+        return at;
+    }
+    if text.len() - at < 2 {
         return at;
     }
     let line = text::line(text, at + 2, &mut read[..k]);
-    buffers::lay(&read[..k], words, place);
+    buffers::lay(part(&read, 0, k), words, place);
     line.next
 }
 
 // The transcript of a text: a, b, c, z and t; where the verdict stands behind them.
-fn transcript(s: Shape, text: &[u8], words: &mut [u32]) -> usize
-    requires { ⌜ length (now text) ≤ 65536 ⌝ }
-{
+fn transcript(s: Shape, text: &[u8], words: &mut [u32]) -> usize {
     let n = s.n as usize;
     let b = polynomial(text, 0, words, circuits::TRANSCRIPT, n);
     let c = polynomial(text, b, words, circuits::TRANSCRIPT + n, n);
@@ -70,7 +74,7 @@ fn is_due(text: &[u8], at: usize, v: Judged) -> bool {
     }
 }
 
-// The line on the sheet as a new one: what `prove` answers, the first 12 bytes of what `deposit` prints, and what `join` answers where the sheet is joined to itself.
+// The line on the sheet as a new one: what `prove` answers, what `deposit` prints, and what `join` answers where the sheet is joined to itself.
 fn print_new(s: Shape, words: &Words, sheet: &[u8]) {
     let mut transcript = buffers::room();
     let mut scratch = buffers::room();
@@ -80,8 +84,8 @@ fn print_new(s: Shape, words: &Words, sheet: &[u8]) {
     print::text(b"as a new sheet,prove");
     print::answer(proved);
     archive::deposit(sheet, &mut text);
-    print::word(b"deposit");
-    print::word(&text[..12]);
+    let is_due = says(&text, 0, b"refused,16,0\n");
+    print::either(is_due, b"deposit,refused,16,0", b"deposit,another text");
     let made = joining::join(sheet, sheet, &mut joined);
     let answer = made.answer;
     print::word(b"join");
@@ -106,9 +110,7 @@ fn print_lines(s: Shape, words: &Words, sheet: &[u8], text: &[u8], at: usize) {
 }
 
 // The lines of a deposit, behind the sheet's name.
-fn judge(sheet: &[u8], text: &[u8])
-    requires { ⌜ length (now text) ≤ 65536 ⌝ }
-{
+fn judge(sheet: &[u8], text: &[u8]) {
     let mut words = buffers::room();
     let mut selectors = [0u32; 1280];
     let mut labels = [0u32; 768];
@@ -139,8 +141,23 @@ fn judge(sheet: &[u8], text: &[u8])
     print_lines(s, &circuits::prepared(s, &words), sheet, text, at);
 }
 
-// The deposit whose sheet argument i names, and whose text the next one does, behind the sheet's name. False where one of them cannot be read, the text is
-// longer than that of any deposit, or the name cannot be printed: what failed is told.
+// The same behind the sheet's name, which is argument i. False where that cannot be printed, or the text is longer than that of any deposit: it is told.
+fn print_judged(i: usize, sheet: &[u8], text: &[u8]) -> bool {
+    if archive::TEXT_LENGTH < text.len() {
+        streams::tell(b"a text is longer than that of any deposit\n");
+        return false;
+    }
+    let mut name = io::buffer();
+    let n = os::arg(i, &mut name);
+    if !streams::print(&name[..n]) {
+        return false;
+    }
+    judge(sheet, text);
+    true
+}
+
+// The deposit whose sheet argument i names, and whose text the next one does. False where one of them cannot be read, or not be judged: what failed is
+// told.
 fn judge_filed(i: usize, next: usize) -> bool {
     let mut sheet = sheet::sheet_room();
     let Got::Bytes(n) = streams::read_file(i, &mut sheet) else {
@@ -150,30 +167,20 @@ fn judge_filed(i: usize, next: usize) -> bool {
     let Got::Bytes(m) = streams::read_file(next, &mut text) else {
         return false;
     };
-    if archive::TEXT_LENGTH < m {
-        streams::tell(b"a text is longer than that of any deposit\n");
-        return false;
-    }
-    let mut name = io::buffer();
-    let k = os::arg(i, &mut name);
-    if !streams::print(&name[..k]) {
-        return false;
-    }
-    judge(&sheet[..n], &text[..m]);
-    true
+    print_judged(i, &sheet[..n], &text[..m])
 }
 
 fn main() {
-    let count = os::arg_count();
-    let end = if count < 65536 { count } else { 0 };
+    let end = os::arg_count();
     if end < 3 || end % 2 == 0 {
         streams::tell(
             b"filed takes the names of two files for each deposit, its sheet and its text\n",
         );
         return;
     }
+    // those past 65,536 are not looked at
     let mut i = 1;
-    while i < end && judge_filed(i, i + 1) {
+    while i < 65536 && i < end && judge_filed(i, i + 1) {
         i += 2;
     }
 }

@@ -6,10 +6,10 @@ use Rattle.case_tools.proofs.buffers.within.Statement.{statement}
 use Rattle.case_tools.proofs.buffers.within.Tie as tie
 
 returns : tie.Need-returns
-returns c = (omega arith, sym (length-take-le _ _ (omega arith)))
+returns c = (omega arith, omega arith, sym (length-take-le _ _ (omega arith)))
 
 returns-2 : tie.Need-returns-2
-returns-2 c = (omega arith, sym (length-take-le _ _ (omega arith)))
+returns-2 c = (omega arith, omega arith, sym (length-take-le _ _ (omega arith)))
 
 pub within-spec : {M : Type 1} → statement M
 within-spec = tie.close (tie.spec returns returns-2)
