@@ -72,18 +72,6 @@ pub fn progression(xs: &mut [u32], first: u32, step: u32) {
     }
 }
 
-// Whether `progression` would change nothing.
-pub fn is_progression(xs: &[u32], first: u32, step: u32) -> bool {
-    let mut x = first;
-    for i in 0..xs.len() {
-        if xs[i] != x {
-            return false;
-        }
-        x = std::num::wrapping_add_u32(x, step);
-    }
-    true
-}
-
 // A buffer of distinct numbers that no result has: what is lent to a call that is to write it.
 pub fn marked() -> Words
     ensures { λ r. ⌜ 32768 ≡ length r ⌝ }

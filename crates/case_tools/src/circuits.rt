@@ -1,5 +1,4 @@
 // A circuit, what it is filled with, and what was made of it, in one buffer, each part at a place of its own with room for 1,024 rows; and the calls on it.
-ghost use Prim.Native.Nat.{_<_};
 use super::buffers;
 use super::buffers::Words;
 use super::buffers::first;
@@ -115,26 +114,18 @@ fn tried(s: Shape) -> u32 {
     if s.n <= 64 { 8 } else { 4 }
 }
 
-// The point of row 1 over the largest prime.
-fn root(p: u32, n: u32) -> u32
-    requires { ⌜ 97 < p ⌝ }
-{
-    if n == 0 {
-        return 0;
-    }
-    field::pow(p, 31, (p - 1) / n)
-}
-
 // The zeta of a try. Over the largest prime they are 0, the points of rows 0 and 1, and numbers that look random.
 fn zeta(s: Shape, k: u32) -> u32 {
-    let p = s.p;
-    if p <= 97 {
+    if s.p <= 97 {
+        return k;
+    }
+    if s.n == 0 {
         return k;
     }
     match k {
         0 | 1 => k,
-        2 => root(p, s.n),
-        _ => buffers::draw(p, k),
+        2 => field::pow(s.p, 31, (s.p - 1) / s.n),
+        _ => buffers::draw(s.p, k),
     }
 }
 
@@ -168,7 +159,7 @@ pub fn change_t(s: Shape, words: &Words) {
     let end = TRANSCRIPT + 4 * (s.n as usize) + 1;
     print::heading(b"first coefficient of t changed", &[s.p, s.n, s.l]);
     print_points(s, &buffers::raised(s.p, *words, end));
-    print::end();
+    print::text(b"\n");
 }
 
 fn print_identity(id: Identity) {
@@ -212,7 +203,7 @@ pub fn print_rows(s: Shape, words: &Words) {
     );
     let v = r.verdict;
     print_verdict(v);
-    print::end();
+    print::text(b"\n");
 }
 
 // The numbers that were written, or a digest where they are many.
@@ -226,31 +217,7 @@ fn print_written(xs: &[u32]) {
     }
 }
 
-// The line of `open` for every polynomial at 3, with the mixing number 5: the answer, what was written, and what became of the scratch.
-fn open(s: Shape, words: &Words, evaluations: &mut [u32], quotient: &mut [u32]) {
-    let n = s.n as usize;
-    let k = 16 * n;
-    let mut scratch = buffers::marked();
-    let answer = opening::open(
-        s.p,
-        s.n,
-        part(words, PREPARED, 8 * n),
-        transcript(s, words),
-        &LIST,
-        evaluations,
-        quotient,
-        &[3, 5],
-        first(&mut scratch, k),
-    );
-    print::heading(b"every polynomial,open", &[s.p, s.n]);
-    print::answer(answer);
-    print_written(evaluations);
-    print_written(quotient);
-    print::left(part(&scratch, 0, k));
-    print::end();
-}
-
-// The line of `check_opening` there: the answer, the verdict, and what became of the scratch.
+// The line of `check_opening` for every polynomial at 3, with the mixing number 5.
 fn check(label: &[u8], s: Shape, words: &Words, evaluations: &[u32], quotient: &[u32]) {
     let n = s.n as usize;
     let k = 16 * n;
@@ -272,16 +239,36 @@ fn check(label: &[u8], s: Shape, words: &Words, evaluations: &[u32], quotient: &
     print::answer(answer);
     print_judged(verdict);
     print::left(part(&scratch, 0, k));
-    print::end();
+    print::text(b"\n");
 }
 
-// Every polynomial opened, and what `open` wrote checked, as it is and with the last evaluation raised.
+// Every polynomial opened there, and what `open` wrote checked, as it is and with the last evaluation raised. A line has the label, the call, p and n, the
+// answer, what was written or the verdict, and what became of the scratch.
 pub fn every_polynomial(s: Shape, words: &Words) {
+    let n = s.n as usize;
+    let k = 16 * n;
     let mut values = [0u32; 13];
     let mut quotient = buffers::room();
-    let a = buffers::within(&quotient, circuit::opening_length(s.n as usize));
+    let mut scratch = buffers::marked();
+    let a = buffers::within(&quotient, circuit::opening_length(n));
     let q = &mut quotient[..a];
-    open(s, words, &mut values, q);
+    let answer = opening::open(
+        s.p,
+        s.n,
+        part(words, PREPARED, 8 * n),
+        transcript(s, words),
+        &LIST,
+        &mut values,
+        q,
+        &[3, 5],
+        first(&mut scratch, k),
+    );
+    print::heading(b"every polynomial,open", &[s.p, s.n]);
+    print::answer(answer);
+    print_written(&values);
+    print_written(q);
+    print::left(part(&scratch, 0, k));
+    print::text(b"\n");
     check(b"every polynomial,check", s, words, &values, q);
     let last = buffers::mul_add(s.p, 1, 1, values[12]);
     values[12] = last;

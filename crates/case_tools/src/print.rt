@@ -44,18 +44,13 @@ pub fn answer(a: Answer) {
     numbers(&[a.number, a.detail]);
 }
 
-// What became of a part of a marked buffer: `kept`, `cleared`, or a digest of what was written.
+// What became of the start of a marked buffer: `kept`, `cleared`, or a digest of what was written.
 pub fn left(xs: &[u32]) {
-    if buffers::is_progression(xs, 3000000000, 1) {
+    if buffers::same(xs, buffers::part(&buffers::marked(), 0, xs.len())) {
         word(b"kept");
-    } else if buffers::is_progression(xs, 0, 0) {
+    } else if buffers::same(xs, buffers::part(&buffers::room(), 0, xs.len())) {
         word(b"cleared");
     } else {
         number(buffers::digest(xs));
     }
-}
-
-// The line's end.
-pub fn end() {
-    text(b"\n");
 }

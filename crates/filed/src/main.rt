@@ -67,11 +67,10 @@ fn transcript(s: Shape, text: &[u8], words: &mut [u32]) -> usize {
 
 // Whether a text has this verdict at a place.
 fn is_due(text: &[u8], at: usize, v: Judged) -> bool {
-    match v {
-        Judged::None => false,
-        Judged::Accept => says(text, at, b"accept\n"),
-        Judged::Reject => says(text, at, b"reject\n"),
+    if circuits::is_accept(v) {
+        return says(text, at, b"accept\n");
     }
+    says(text, at, b"reject\n")
 }
 
 // The line on the sheet as a new one: what `prove` answers, what `deposit` prints, and what `join` answers where the sheet is joined to itself.
@@ -90,7 +89,7 @@ fn print_new(s: Shape, words: &Words, sheet: &[u8]) {
     let answer = made.answer;
     print::word(b"join");
     print::answer(answer);
-    print::end();
+    print::text(b"\n");
 }
 
 // The lines of a deposit, from p on. The filed verdict stands at a place of its text.
