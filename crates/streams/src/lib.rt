@@ -48,24 +48,31 @@ pub fn read_input(out: &mut [u8]) -> Got
     read_all(STDIN_FILENO, b"standard input", out)
 }
 
+// Reads the file of this name.
+pub fn read_named(name: &[u8], out: &mut [u8]) -> Got
+    ensures { λ r. ⌜ Counts (bytesOf r) (now (out .exit)) ⌝ }
+{
+    let fd = os::open_read(name);
+    if fd < 0 {
+        os::fail(name);
+        return Got::Failed;
+    }
+    let got = read_all(fd, name, out);
+    libc::close(fd);
+    got
+}
+
 // Reads the file that argument i names.
 pub fn read_file(i: usize, out: &mut [u8]) -> Got
     ensures { λ r. ⌜ Counts (bytesOf r) (now (out .exit)) ⌝ }
 {
-    let mut path = io::buffer();
-    let n = os::arg(i, &mut path);
+    let mut name = io::buffer();
+    let n = os::arg(i, &mut name);
     if os::errno() != 0 {
         os::fail(b"the name of a file");
         return Got::Failed;
     }
-    let fd = os::open_read(&path[..n]);
-    if fd < 0 {
-        os::fail(&path[..n]);
-        return Got::Failed;
-    }
-    let got = read_all(fd, &path[..n], out);
-    libc::close(fd);
-    got
+    read_named(&name[..n], out)
 }
 
 // Writes all of a text to standard output, and answers whether it could.
