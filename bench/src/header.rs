@@ -4,7 +4,7 @@ use crate::declarations::{of_c, of_rattle, of_rust, Declaration};
 use std::path::{Path, PathBuf};
 use std::process::{Command, Output};
 
-const HEADER: &str = "include/guppyspoon.h";
+pub const HEADER: &str = "include/guppyspoon.h";
 const SOURCE: &str = "crates/exports/src/lib.rt";
 const RUST: &str = "bench/src/calls.rs";
 
@@ -13,7 +13,8 @@ pub fn root() -> PathBuf {
     Path::new(env!("CARGO_MANIFEST_DIR")).join("..")
 }
 
-fn text_of(file: &str) -> String {
+// The text of a file of the repository.
+pub fn text_of(file: &str) -> String {
     std::fs::read_to_string(root().join(file)).unwrap_or_else(|e| panic!("{file}: {e}"))
 }
 

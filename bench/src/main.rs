@@ -10,6 +10,7 @@
 //               from one layout to the other and back; then lends the same inputs to both, many of them, short and long, valid and damaged, and
 //               compares every word of every buffer afterwards, those that a call only reads and the words around each lent part among them
 //     header    compares include/guppyspoon.h with the library's source, and compiles and runs the C programs that include it
+//     pages     looks up every link and path of the documents, and compares docs/CALLS.md with the header, and its examples with the cases
 //     programs  runs deposit, join and filed on inputs and outputs of every kind, those that fail among them, and looks at what they print and tell
 //     stack     prints the stack that each call takes at its largest size, beside what the header says
 //     measure   prints the time of each call on both sides and the ratio
@@ -37,6 +38,7 @@ mod measure;
 mod numbers;
 mod opening_cases;
 mod openings;
+mod pages;
 mod plain;
 mod polynomials;
 mod products;
@@ -53,7 +55,7 @@ mod transfer_compare;
 mod transfers;
 mod transforms;
 
-const PARTS: [&str; 6] = ["compare", "header", "programs", "stack", "measure", "growth"];
+const PARTS: [&str; 7] = ["compare", "header", "pages", "programs", "stack", "measure", "growth"];
 
 // The sheets of a folder, and its pairs of sheets. How many differ; a folder that has neither was meant to have some.
 fn run_folder(folder: &Path) -> usize {
@@ -93,6 +95,9 @@ fn main() {
     }
     if says("header") {
         differences += header::run();
+    }
+    if says("pages") {
+        differences += pages::run();
     }
     if says("programs") {
         differences += programs::run();
