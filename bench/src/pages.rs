@@ -162,9 +162,12 @@ fn compare_examples() -> usize {
     let (page, blocks, stored) = (text_of(CALLS), text_of(BLOCKS), text_of(STORED));
     let (lent, comes) = examples(&page);
     let count = lent.iter().filter(|line| **line == ".").count();
-    let same = count > 0 && lent == cases_of(&blocks) && cases_of(&stored).windows(comes.len()).any(|lines| lines == comes);
-    println!("{}{CALLS}, {count} examples: those of {BLOCKS}, and what comes is in {STORED}", if same { "" } else { "DIFFERENCE these are not so: " });
-    usize::from(!same)
+    let known = count > 0 && lent == cases_of(&blocks) && cases_of(&stored).windows(comes.len()).any(|lines| lines == comes);
+    if !known {
+        println!("DIFFERENCE the examples of {CALLS} are not those of {BLOCKS}, or what comes of them is not in {STORED}");
+    }
+    println!("{CALLS}, {count} examples: {} differences from {BLOCKS} and {STORED}", usize::from(!known));
+    usize::from(!known)
 }
 
 // How much is off.
