@@ -1,5 +1,5 @@
 // Compares the proved library with a plain implementation of document 01 and of the openings, joins, lost gammas and transfers of contents of document
-// 02, holds the C header to the library, runs the programs, and measures stack and time. Run it from the repository's root:
+// 02, holds the C header to the library and the documents to both, runs the programs, and measures stack and time. Run it from the repository's root:
 //
 //     rt check deposit join filed && rt staticlib exports && cargo run --release --manifest-path bench/Cargo.toml
 //
