@@ -1,7 +1,8 @@
 -- The numbers that docs/READER.md works out by hand, beyond those of the scope's own table: each is what the definitions give.
 --
--- table      what the page names, what the definitions make of it, what the page says
--- by-hand    every row is right
+-- left, right, checked   the row check's steps and its verdict, for a witness and z on the rows
+-- table                  what the page names, what the definitions make of it, what the page says
+-- by-hand                every row is right
 --
 -- Assumes nothing.
 use mathlib.Core.Path.{_≡_, refl}
@@ -19,8 +20,8 @@ use Rattle.transform.specs.Passes.{strided, oddWord, passed}
 use Rattle.circuit.specs.Buffers.{wirePart, zPart, tPart}
 use Rattle.circuit.specs.Circuit.{Constraints, lentConstraints, lentPublic, witnessPlace, lentBy, laidBy, byRows, laidWitness, permutation, gate}
 use Rattle.circuit.specs.Worked.{publicSelectors, labels}
-use Rattle.protocol.specs.Protocol.{wiredTag, runningZ, rowN, rowD, polyN, polyD, polyL, gatePart, stepPart, startPart, polyF, quotient, preparedPoly, prepared, wiresOf, proved, accept, pointVerdict, zeroFactor, tagged, lostGammas}
-use Rattle.protocol.specs.Worked.{circuit, publics, witness, rowIs5-7-12, zWorked, Case, number, inverted, numbers, perhaps, atPoint, _&_}
+use Rattle.protocol.specs.Protocol.{wiredTag, runningZ, rowN, rowD, polyN, polyD, polyL, gatePart, stepPart, startPart, polyF, quotient, preparedPoly, prepared, wiresOf, proved, pass, fails, gateIdentity, startIdentity, stepIdentity, rowsFrom, rowVerdict, accept, pointVerdict, zeroFactor, tagged, lostGammas}
+use Rattle.protocol.specs.Worked.{circuit, publics, witness, lastIs11, rowIs5-7-12, zWorked, Case, Value, number, inverted, numbers, perhaps, rows, atPoint, _&_}
 use Rattle.opening.specs.Opening.{polynomialOf, less, named, evaluationsOf, mixtureOf}
 use Rattle.opening.specs.Worked as opened
 
@@ -45,6 +46,16 @@ lower c = addP (addP (wire c) (pre (5 + c))) (1 ∷ [])
 
 abbrev F : List ℕ
 F = polyF 17 2 pre wire x z 1 1 2
+
+-- the row check with beta and gamma 1, for a witness v and z on the rows: both sides of the step of row i, from the last row to row 0 as well, and the verdict
+abbrev left : (ℕ → ℕ) → List ℕ → ℕ → ℕ
+left v onRows i = coef onRows i * rowN 17 2 v 1 1 i % 17
+
+abbrev right : (ℕ → ℕ) → List ℕ → ℕ → ℕ
+right v onRows i = coef onRows ((i + 1) % 2) * rowD 17 2 circuit v 1 1 i % 17
+
+abbrev checked : (ℕ → ℕ) → List ℕ → Value
+checked v onRows = rows (rowVerdict 17 2 circuit publics v (coef onRows) 1 1)
 
 -- the opening of a, b, c, z and t at 2, with m = 3: each with its value taken off, and the sum of these, times the powers of 3
 abbrev shifted : ℕ → List ℕ
@@ -122,6 +133,23 @@ table =
     ∷ record { what = "where the number of each position is lent"; is = numbers (tab (witnessPlace 2) 6); should = numbers (0 ∷ 3 ∷ 1 ∷ 4 ∷ 2 ∷ 5 ∷ []) }
     ∷ record { what = "the numbers as they are lent"; is = numbers (laidWitness 2 witness); should = numbers (2 ∷ 3 ∷ 6 ∷ 6 ∷ 6 ∷ 12 ∷ []) }
     ∷ record { what = "tags of where the permutation leads"; is = numbers (tab (wiredTag 17 2 circuit) 6); should = numbers (1 ∷ 14 ∷ 3 ∷ 9 ∷ 16 ∷ 8 ∷ []) }
+    ∷ record { what = "row check: gates"; is = numbers (tab (gate 17 2 circuit publics witness) 2); should = numbers (0 ∷ 0 ∷ []) }
+    ∷ record { what = "row check: steps, left sides"; is = numbers (tab (left witness (1 ∷ 14 ∷ [])) 2); should = numbers (6 ∷ 1 ∷ []) }
+    ∷ record { what = "row check: steps, right sides"; is = numbers (tab (right witness (1 ∷ 14 ∷ [])) 2); should = numbers (6 ∷ 1 ∷ []) }
+    ∷ record { what = "row check: the verdict"; is = checked witness (1 ∷ 14 ∷ []); should = rows pass }
+    ∷ record { what = "last number 11: gates"; is = numbers (tab (gate 17 2 circuit publics lastIs11) 2); should = numbers (0 ∷ 1 ∷ []) }
+    ∷ record { what = "last number 11: steps, left sides"; is = numbers (tab (left lastIs11 (1 ∷ 14 ∷ [])) 2); should = numbers (6 ∷ 5 ∷ []) }
+    ∷ record { what = "last number 11: steps, right sides"; is = numbers (tab (right lastIs11 (1 ∷ 14 ∷ [])) 2); should = numbers (6 ∷ 5 ∷ []) }
+    ∷ record { what = "last number 11: the verdict"; is = checked lastIs11 (1 ∷ 14 ∷ []); should = rows (fails gateIdentity 1) }
+    ∷ record { what = "z = 2, 11: steps, left sides"; is = numbers (tab (left witness (2 ∷ 11 ∷ [])) 2); should = numbers (12 ∷ 2 ∷ []) }
+    ∷ record { what = "z = 2, 11: steps, right sides"; is = numbers (tab (right witness (2 ∷ 11 ∷ [])) 2); should = numbers (12 ∷ 2 ∷ []) }
+    ∷ record { what = "z = 2, 11: the verdict"; is = checked witness (2 ∷ 11 ∷ []); should = rows (fails startIdentity 0) }
+    ∷ record { what = "row 1 as 5, 7, 12: gates"; is = numbers (tab (gate 17 2 circuit publics rowIs5-7-12) 2); should = numbers (0 ∷ 0 ∷ []) }
+    ∷ record { what = "row 1 as 5, 7, 12: N"; is = numbers (tab (rowN 17 2 rowIs5-7-12 1 1) 2); should = numbers (6 ∷ 15 ∷ []) }
+    ∷ record { what = "row 1 as 5, 7, 12: D"; is = numbers (tab (rowD 17 2 circuit rowIs5-7-12 1 1) 2); should = numbers (15 ∷ 0 ∷ []) }
+    ∷ record { what = "row 1 as 5, 7, 12: steps, left sides"; is = numbers (tab (left rowIs5-7-12 (1 ∷ 14 ∷ [])) 2); should = numbers (6 ∷ 6 ∷ []) }
+    ∷ record { what = "row 1 as 5, 7, 12: steps, right sides"; is = numbers (tab (right rowIs5-7-12 (1 ∷ 14 ∷ [])) 2); should = numbers (6 ∷ 0 ∷ []) }
+    ∷ record { what = "row 1 as 5, 7, 12: the verdict"; is = checked rowIs5-7-12 (1 ∷ 14 ∷ []); should = rows (fails stepIdentity 1) }
     ∷ record { what = "selectors and wired tags as polynomials"; is = numbers (prepared 17 2 circuit); should = numbers (9 ∷ 8 ∷ 9 ∷ 8 ∷ 16 ∷ 0 ∷ 9 ∷ 9 ∷ 0 ∷ 0 ∷ 16 ∷ 2 ∷ 6 ∷ 14 ∷ 12 ∷ 4 ∷ []) }
     ∷ record { what = "qL × a"; is = numbers (reduced 17 3 (mulP (pre 0) (wire 0))); should = numbers (2 ∷ 14 ∷ 1 ∷ []) }
     ∷ record { what = "qR × b"; is = numbers (reduced 17 3 (mulP (pre 1) (wire 1))); should = numbers (15 ∷ 14 ∷ 5 ∷ []) }
@@ -183,5 +211,5 @@ table =
     ∷ []
 
 pub by-hand : All (λ r. r .is ≡ r .should) table
-unfolding tab gathered occurs different powF first inverse reduced quotientVanishing remainderVanishing generator root point multiplier tag evaluation interpolation strided passed lentBy laidBy byRows permutation rowN rowD runningZ polyN polyD polyL gatePart stepPart startPart polyF quotient laid prepared pointVerdict gate zeroFactor tagged lostGammas polynomialOf evaluationsOf mixtureOf
-by-hand = refl & refl & refl & refl & refl & refl & refl & refl & refl & refl & refl & refl & refl & refl & refl & refl & refl & refl & refl & refl & refl & refl & refl & refl & refl & refl & refl & refl & refl & refl & refl & refl & refl & refl & refl & refl & refl & refl & refl & refl & refl & refl & refl & refl & refl & refl & refl & refl & refl & refl & refl & refl & refl & refl & refl & refl & refl & refl & refl & refl & refl & refl & refl & refl & refl & refl & refl & refl & refl & refl & refl & refl & refl & refl & refl & refl & tt
+unfolding tab gathered occurs different powF first inverse reduced quotientVanishing remainderVanishing generator root point multiplier tag evaluation interpolation strided passed lentBy laidBy byRows permutation rowN rowD runningZ polyN polyD polyL gatePart stepPart startPart polyF quotient laid prepared rowsFrom pointVerdict gate zeroFactor tagged lostGammas polynomialOf evaluationsOf mixtureOf
+by-hand = refl & refl & refl & refl & refl & refl & refl & refl & refl & refl & refl & refl & refl & refl & refl & refl & refl & refl & refl & refl & refl & refl & refl & refl & refl & refl & refl & refl & refl & refl & refl & refl & refl & refl & refl & refl & refl & refl & refl & refl & refl & refl & refl & refl & refl & refl & refl & refl & refl & refl & refl & refl & refl & refl & refl & refl & refl & refl & refl & refl & refl & refl & refl & refl & refl & refl & refl & refl & refl & refl & refl & refl & refl & refl & refl & refl & refl & refl & refl & refl & refl & refl & refl & refl & refl & refl & refl & refl & refl & refl & refl & refl & refl & tt
