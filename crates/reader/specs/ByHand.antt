@@ -138,6 +138,8 @@ table =
     ∷ record { what = "row check: steps, right sides"; is = numbers (tab (right witness (1 ∷ 14 ∷ [])) 2); should = numbers (6 ∷ 1 ∷ []) }
     ∷ record { what = "row check: the verdict"; is = checked witness (1 ∷ 14 ∷ []); should = rows pass }
     ∷ record { what = "last number 11: gates"; is = numbers (tab (gate 17 2 circuit publics lastIs11) 2); should = numbers (0 ∷ 1 ∷ []) }
+    ∷ record { what = "last number 11: N"; is = numbers (tab (rowN 17 2 lastIs11 1 1) 2); should = numbers (6 ∷ 4 ∷ []) }
+    ∷ record { what = "last number 11: D"; is = numbers (tab (rowD 17 2 circuit lastIs11 1 1) 2); should = numbers (15 ∷ 5 ∷ []) }
     ∷ record { what = "last number 11: steps, left sides"; is = numbers (tab (left lastIs11 (1 ∷ 14 ∷ [])) 2); should = numbers (6 ∷ 5 ∷ []) }
     ∷ record { what = "last number 11: steps, right sides"; is = numbers (tab (right lastIs11 (1 ∷ 14 ∷ [])) 2); should = numbers (6 ∷ 5 ∷ []) }
     ∷ record { what = "last number 11: the verdict"; is = checked lastIs11 (1 ∷ 14 ∷ []); should = rows (fails gateIdentity 1) }
@@ -212,4 +214,4 @@ table =
 
 pub by-hand : All (λ r. r .is ≡ r .should) table
 unfolding tab gathered occurs different powF first inverse reduced quotientVanishing remainderVanishing generator root point multiplier tag evaluation interpolation strided passed lentBy laidBy byRows permutation rowN rowD runningZ polyN polyD polyL gatePart stepPart startPart polyF quotient laid prepared rowsFrom pointVerdict gate zeroFactor tagged lostGammas polynomialOf evaluationsOf mixtureOf
-by-hand = refl & refl & refl & refl & refl & refl & refl & refl & refl & refl & refl & refl & refl & refl & refl & refl & refl & refl & refl & refl & refl & refl & refl & refl & refl & refl & refl & refl & refl & refl & refl & refl & refl & refl & refl & refl & refl & refl & refl & refl & refl & refl & refl & refl & refl & refl & refl & refl & refl & refl & refl & refl & refl & refl & refl & refl & refl & refl & refl & refl & refl & refl & refl & refl & refl & refl & refl & refl & refl & refl & refl & refl & refl & refl & refl & refl & refl & refl & refl & refl & refl & refl & refl & refl & refl & refl & refl & refl & refl & refl & refl & refl & refl & tt
+by-hand = refl & refl & refl & refl & refl & refl & refl & refl & refl & refl & refl & refl & refl & refl & refl & refl & refl & refl & refl & refl & refl & refl & refl & refl & refl & refl & refl & refl & refl & refl & refl & refl & refl & refl & refl & refl & refl & refl & refl & refl & refl & refl & refl & refl & refl & refl & refl & refl & refl & refl & refl & refl & refl & refl & refl & refl & refl & refl & refl & refl & refl & refl & refl & refl & refl & refl & refl & refl & refl & refl & refl & refl & refl & refl & refl & refl & refl & refl & refl & refl & refl & refl & refl & refl & refl & refl & refl & refl & refl & refl & refl & refl & refl & refl & refl & tt
