@@ -153,8 +153,7 @@ pub fn print_points(s: Shape, words: &Words) {
     print::number(tried(s));
 }
 
-// The line of the transcript with t's first coefficient raised: it is accepted at the rows' points only, of which all n are tried over the two
-// small primes, and two over the largest.
+// The line of the transcript with t's first coefficient raised: it is accepted at the rows' points, of which two are tried over the largest prime.
 pub fn change_t(s: Shape, words: &Words) {
     let end = TRANSCRIPT + 4 * (s.n as usize) + 1;
     print::heading(b"first coefficient of t changed", &[s.p, s.n, s.l]);
@@ -242,8 +241,7 @@ fn check(label: &[u8], s: Shape, words: &Words, evaluations: &[u32], quotient: &
     print::text(b"\n");
 }
 
-// Every polynomial opened there, and what `open` wrote checked, as it is and with the last evaluation raised. A line has the label, the call, p and n, the
-// answer, what was written or the verdict, and what became of the scratch.
+// Every polynomial opened there: the answer, what was written, and the scratch; and that checked, as it is and with the last evaluation raised.
 pub fn every_polynomial(s: Shape, words: &Words) {
     let n = s.n as usize;
     let k = 16 * n;

@@ -43,13 +43,11 @@ fn polynomial(text: &[u8], at: usize, words: &mut [u32], place: usize, count: us
     if archive::TEXT_LENGTH < text.len() {
         return at;
     }
-    if text.len() < at {
+    let start = std::num::wrapping_add_usize(at, 2);
+    if text.len() < start {
         return at;
     }
-    if text.len() - at < 2 {
-        return at;
-    }
-    let line = text::line(text, at + 2, &mut read[..k]);
+    let line = text::line(text, start, &mut read[..k]);
     buffers::lay(part(&read, 0, k), words, place);
     line.next
 }
