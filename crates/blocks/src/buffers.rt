@@ -15,7 +15,9 @@ const ROOM: usize = 36864;
 // The first mark. It is above every prime.
 pub const MARK: u32 = 3000000000;
 
-pub fn room() -> [u32; ROOM]
+pub type Room = [u32; ROOM];
+
+fn room() -> Room
     ensures { λ r. ⌜ 36864 ≡ length r ⌝ }
 {
     [0; ROOM]
@@ -46,20 +48,46 @@ pub fn marks(line: &[u8]) -> usize {
     k as usize
 }
 
-// The buffer of a line, at the start of a room; how many words are lent.
-pub fn lay(line: &[u8], out: &mut [u32]) -> usize
-    ensures { λ r. ⌜ Counts r (now (out .exit)) ⌝ }
-{
+// The words of a line, at the start of a room of marks; how many are lent.
+fn lay(line: &[u8], out: &mut [u32]) -> usize {
     mark(out);
     if lines::begins(line, b'-') || lines::begins(line, b'@') {
         return 0;
     }
     if lines::begins(line, b'?') {
-        let k = marks(line);
-        return within(out, k);
+        return marks(line);
     }
-    let k = lines::numbers(line, out);
-    within(out, k)
+    lines::numbers(line, out)
+}
+
+// How many words a line lends.
+fn count(line: &[u8]) -> usize {
+    let mut words = room();
+    lay(line, &mut words)
+}
+
+// The room of a line's buffer.
+pub fn laid(line: &[u8]) -> Room
+    ensures { λ r. ⌜ 36864 ≡ length r ⌝ }
+{
+    let mut words = room();
+    lay(line, &mut words);
+    words
+}
+
+// What is lent of a room to be read: the words of its line.
+pub fn part<'a>(words: &'a Room, line: &[u8]) -> &'a [u32] {
+    let k = count(line);
+    let xs = &words[..];
+    let m = within(xs, k);
+    &xs[..m]
+}
+
+// What is lent of a room to be written.
+pub fn lent<'a>(xs: &'a mut [u32], line: &[u8]) -> &'a mut [u32] {
+    let k = count(line);
+    let m = within(xs, k);
+    &mut xs[..m]
 }
 
 // Two buffers of one length have the same words, from a place on.
@@ -91,42 +119,46 @@ fn used(xs: &[u32]) -> usize
     0
 }
 
-// The words of a buffer that is changed. Those of `read` have zeros behind the sheet's numbers.
-fn tell(is_read: bool, xs: &[u32]) {
-    let k = used(xs);
-    if k == 0 {
+// The line of a buffer that a call may write: `kept` where it is as it was, `zeros` where all its words are 0, its words else.
+fn outcome(xs: &[u32], was: &[u32]) {
+    if same(xs, was, 0) {
+        print(b"kept\n");
+    } else if used(xs) == 0 {
         print(b"zeros\n");
-    } else if is_read && k < xs.len() {
-        print::numbers(&xs[..k]);
-        print(b",zeros behind\n");
     } else {
         print::numbers(xs);
         print(b"\n");
     }
 }
 
-// What became of a buffer.
-fn outcome(s: &[u8], line: &[u8], xs: &[u32], was: &[u32]) {
-    let is_same = same(xs, was, 0);
-    if !lines::begins(line, b'?') {
-        if !is_same {
-            print(b"a buffer that is only read is changed\n");
-        }
-    } else if is_same {
-        print(b"kept\n");
-    } else {
-        tell(lines::is(lines::line(s, 0), b"read"), xs);
+// The same of a buffer with room for more than a sheet has: zeros behind its numbers are not written out.
+fn outcome_filled(xs: &[u32], was: &[u32]) {
+    let k = used(xs);
+    if k == 0 || k == xs.len() {
+        outcome(xs, was);
+        return;
     }
+    print::numbers(&xs[..k]);
+    print(b",zeros behind\n");
 }
 
-// What became of the buffer of the block's line k, and of the words behind it, which were not lent.
-pub fn look(s: &[u8], k: usize, xs: &[u32]) {
-    let mut was = room();
-    let line = lines::line(s, k);
-    let m = lay(line, &mut was);
-    let n = within(xs, m);
-    outcome(s, line, &xs[..n], &was[..m]);
-    if !same(xs, &was, m) {
+// What became of the buffer of a line that is there, and of the words behind it, which were not lent.
+pub fn look(line: &[u8], filled: bool, words: &Room) {
+    if line.len() == 0 {
+        return;
+    }
+    let mut room = room();
+    let k = lay(line, &mut room);
+    let xs = &words[..];
+    let was = &room[..];
+    let i = within(xs, k);
+    let j = within(was, k);
+    if filled {
+        outcome_filled(&xs[..i], &was[..j]);
+    } else {
+        outcome(&xs[..i], &was[..j]);
+    }
+    if !same(xs, was, k) {
         print(b"words behind a buffer are changed\n");
     }
 }

@@ -13,7 +13,9 @@ const ROOM: usize = 73728;
 // The byte that stands for anything, and behind a buffer. No text has it.
 const MARK: u8 = 255;
 
-pub fn room() -> [u8; ROOM]
+pub type Room = [u8; ROOM];
+
+fn room() -> Room
     ensures { λ r. ⌜ 73728 ≡ length r ⌝ }
 {
     [MARK; ROOM]
@@ -26,25 +28,45 @@ fn within(xs: &[u8], k: usize) -> usize
     if k < xs.len() { k } else { xs.len() }
 }
 
-// The file of this name, at the start of `out`; how many bytes it has. One that cannot be read is told, and is lent as an empty one.
-fn load(name: &[u8], out: &mut [u8]) -> usize
-    ensures { λ r. ⌜ Counts r (now (out .exit)) ⌝ }
-{
-    match streams::read_named(name, out) {
+// The bytes of a line, at the start of a room of marks; how many are lent. A file that cannot be read is told, and is lent as an empty sheet.
+fn lay(line: &[u8], out: &mut [u8]) -> usize {
+    if !lines::begins(line, b'@') {
+        return buffers::marks(line);
+    }
+    match streams::read_named(lines::rest(line), out) {
         Got::Bytes(n) => n,
         Got::Failed => 0,
     }
 }
 
-// The sheet that a line `@NAME` names, or the marks of a line `?k`, at the start of a room; how many bytes are lent.
-pub fn lay(line: &[u8], out: &mut [u8]) -> usize
-    ensures { λ r. ⌜ Counts r (now (out .exit)) ⌝ }
+// How many bytes a line lends.
+fn count(line: &[u8]) -> usize {
+    let mut bytes = room();
+    lay(line, &mut bytes)
+}
+
+// The room of a line's buffer.
+pub fn laid(line: &[u8]) -> Room
+    ensures { λ r. ⌜ 73728 ≡ length r ⌝ }
 {
-    if lines::begins(line, b'@') {
-        return load(lines::rest(line), out);
-    }
-    let k = buffers::marks(line);
-    within(out, k)
+    let mut bytes = room();
+    lay(line, &mut bytes);
+    bytes
+}
+
+// What is lent of a room to be read: the bytes of its line.
+pub fn part<'a>(bytes: &'a Room, line: &[u8]) -> &'a [u8] {
+    let k = count(line);
+    let xs = &bytes[..];
+    let m = within(xs, k);
+    &xs[..m]
+}
+
+// What is lent of a room to be written.
+pub fn lent<'a>(xs: &'a mut [u8], line: &[u8]) -> &'a mut [u8] {
+    let k = count(line);
+    let m = within(xs, k);
+    &mut xs[..m]
 }
 
 // All bytes from a place on are this one.
@@ -73,10 +95,11 @@ fn used(xs: &[u8]) -> usize
     k
 }
 
-// What became of k bytes that were marks, and of the room behind them: `kept`, or the text that they hold, with zeros behind it.
-pub fn look(k: usize, xs: &[u8]) {
-    let m = within(xs, k);
-    let lent = &xs[..m];
+// What became of a buffer that was marks, and of the room behind it: `kept`, or the text that it holds, with zeros behind it.
+pub fn look(line: &[u8], bytes: &Room) {
+    let xs = &bytes[..];
+    let k = within(xs, buffers::marks(line));
+    let lent = &xs[..k];
     let text = used(lent);
     if all(lent, 0, MARK) {
         print(b"kept\n");

@@ -75,6 +75,21 @@ pub fn begins(line: &[u8], byte: u8) -> bool {
     0 < line.len() && line[0] == byte
 }
 
+// The line of the block's buffer that is the first to be written, the second, and so on, i counted from 0: it begins with `?`. A line behind the block
+// where there is none.
+pub fn marked(s: &[u8], i: usize) -> usize {
+    let mut left = i;
+    for k in 2..9 {
+        if begins(line(s, k), b'?') {
+            if left == 0 {
+                return k;
+            }
+            left -= 1;
+        }
+    }
+    9
+}
+
 // The line without its first byte; an empty one as it is.
 pub fn rest(line: &[u8]) -> &[u8] {
     if line.len() == 0 {

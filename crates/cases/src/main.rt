@@ -38,6 +38,8 @@ fn run_block(s: &[u8]) {
         sheets::deposit(s);
     } else if lines::is(name, b"join") {
         sheets::join(s);
+    } else if lines::is(name, b"read") {
+        sheets::read(s);
     } else if lines::is(name, b"polynomial") {
         polynomial::run(s);
     } else {

@@ -2,7 +2,8 @@
 // word tells where it starts.
 ghost use Prim.Native.Nat.{_≤_};
 ghost use lib.ListN.{length};
-use blocks::buffers;
+use blocks::buffers::laid;
+use blocks::buffers::part;
 use blocks::lines;
 use blocks::lines::line;
 use blocks::print;
@@ -42,13 +43,11 @@ fn tell(prepared: &[u32], transcript: &[u32], part: &[u32]) {
 // The call of a block: n and the polynomial's number; the prepared circuit, the transcript.
 pub fn run(s: &[u8]) {
     let mut numbers = [0u32; 2];
-    let mut a = buffers::room();
-    let mut b = buffers::room();
     lines::numbers(line(s, 1), &mut numbers);
-    let j = buffers::lay(line(s, 2), &mut a);
-    let k = buffers::lay(line(s, 3), &mut b);
-    let prepared = &a[..j];
-    let transcript = &b[..k];
-    let part = circuit::polynomial(numbers[0], numbers[1], prepared, transcript);
-    tell(prepared, transcript, part);
+    let a = laid(line(s, 2));
+    let b = laid(line(s, 3));
+    let prepared = part(&a, line(s, 2));
+    let transcript = part(&b, line(s, 3));
+    let found = circuit::polynomial(numbers[0], numbers[1], prepared, transcript);
+    tell(prepared, transcript, found);
 }

@@ -1,50 +1,65 @@
-// The two calls that are lent sheets and write bytes.
+// The calls that are lent sheets.
+use blocks::buffers;
+use blocks::buffers::MARK;
 use blocks::bytes;
+use blocks::bytes::laid;
+use blocks::bytes::lent;
+use blocks::bytes::part;
 use blocks::lines::line;
 use blocks::print;
 
-// `deposit` on the bytes that are to be written.
-fn deposit_to(s: &[u8], text: &mut [u8]) {
-    let mut sheet = bytes::room();
-    let mut answer = [0u32; 3];
-    let k = bytes::lay(line(s, 2), &mut sheet);
-    exports::guppyspoon_deposit(&sheet[..k], text, &mut answer);
-    print::answer(b"deposit", &answer);
-}
-
-// The same, in a room for them.
-fn deposit_in(s: &[u8], text: &mut [u8]) {
-    let k = bytes::lay(line(s, 3), text);
-    deposit_to(s, &mut text[..k]);
-    bytes::look(k, text);
-}
-
 // The call `deposit` of a block.
 pub fn deposit(s: &[u8]) {
-    let mut text = bytes::room();
-    deposit_in(s, &mut text);
-}
-
-// `join` on the bytes that are to be written.
-fn join_to(s: &[u8], joined: &mut [u8]) {
-    let mut one = bytes::room();
-    let mut two = bytes::room();
-    let mut answer = [0u32; 3];
-    let j = bytes::lay(line(s, 2), &mut one);
-    let k = bytes::lay(line(s, 3), &mut two);
-    exports::guppyspoon_join(&one[..j], &two[..k], joined, &mut answer);
-    print::answer(b"join", &answer);
-}
-
-// The same, in a room for them.
-fn join_in(s: &[u8], joined: &mut [u8]) {
-    let k = bytes::lay(line(s, 4), joined);
-    join_to(s, &mut joined[..k]);
-    bytes::look(k, joined);
+    let mut answer = [MARK; 3];
+    let sheet = laid(line(s, 2));
+    let mut text = laid(line(s, 3));
+    exports::guppyspoon_deposit(
+        part(&sheet, line(s, 2)),
+        lent(&mut text, line(s, 3)),
+        &mut answer,
+    );
+    print::answer(b"deposit", &answer);
+    bytes::look(line(s, 3), &text);
 }
 
 // The call `join` of a block.
 pub fn join(s: &[u8]) {
-    let mut joined = bytes::room();
-    join_in(s, &mut joined);
+    let mut answer = [MARK; 3];
+    let one = laid(line(s, 2));
+    let two = laid(line(s, 3));
+    let mut joined = laid(line(s, 4));
+    exports::guppyspoon_join(
+        part(&one, line(s, 2)),
+        part(&two, line(s, 3)),
+        lent(&mut joined, line(s, 4)),
+        &mut answer,
+    );
+    print::answer(b"join", &answer);
+    bytes::look(line(s, 4), &joined);
+}
+
+// The call `read` of a block.
+pub fn read(s: &[u8]) {
+    let mut answer = [MARK; 5];
+    let sheet = laid(line(s, 2));
+    let mut b = buffers::laid(line(s, 3));
+    let mut c = buffers::laid(line(s, 4));
+    let mut d = buffers::laid(line(s, 5));
+    let mut e = buffers::laid(line(s, 6));
+    let mut f = buffers::laid(line(s, 7));
+    exports::guppyspoon_read(
+        part(&sheet, line(s, 2)),
+        buffers::lent(&mut b, line(s, 3)),
+        buffers::lent(&mut c, line(s, 4)),
+        buffers::lent(&mut d, line(s, 5)),
+        buffers::lent(&mut e, line(s, 6)),
+        buffers::lent(&mut f, line(s, 7)),
+        &mut answer,
+    );
+    print::answer(b"read", &answer);
+    buffers::look(line(s, 3), true, &b);
+    buffers::look(line(s, 4), true, &c);
+    buffers::look(line(s, 5), true, &d);
+    buffers::look(line(s, 6), true, &e);
+    buffers::look(line(s, 7), true, &f);
 }

@@ -65,10 +65,11 @@ fn transcript(s: Shape, text: &[u8], words: &mut [u32]) -> usize {
 
 // Whether a text has this verdict at a place.
 fn is_due(text: &[u8], at: usize, v: Judged) -> bool {
-    if circuits::is_accept(v) {
-        return says(text, at, b"accept\n");
+    match v {
+        Judged::None => false,
+        Judged::Accept => says(text, at, b"accept\n"),
+        Judged::Reject => says(text, at, b"reject\n"),
     }
-    says(text, at, b"reject\n")
 }
 
 // The line on the sheet as a new one: what `prove` answers, what `deposit` prints, and what `join` answers where the sheet is joined to itself.
@@ -102,7 +103,9 @@ fn print_lines(s: Shape, words: &Words, sheet: &[u8], text: &[u8], at: usize) {
     circuits::change_t(s, words);
     print::heading(b"last content changed", &[s.p, s.n, s.l]);
     circuits::print_rows(s, &buffers::raised(s.p, *words, end));
-    circuits::every_polynomial(s, words);
+    if 2 <= s.n {
+        circuits::every_polynomial(s, words);
+    }
     print_new(s, words, sheet);
 }
 
