@@ -4,7 +4,6 @@ ghost use Prim.Native.Nat.{_≤_};
 
 mod counts;
 mod made;
-mod numbers;
 
 // The lines of every size from 2 to the greatest. Nothing is proved over 97.
 fn every_size(p: u32, greatest: u32)
@@ -12,7 +11,7 @@ fn every_size(p: u32, greatest: u32)
 {
     let mut n: u32 = 2;
     while n <= greatest {
-        numbers::there_and_back(p, n);
+        random_cases::there_and_back(p, n);
         if p != 97 {
             made::lines(b"half of the rows public", p, n, n / 2, 2 * n);
         }
@@ -25,7 +24,7 @@ fn main() {
     every_size(97, 32);
     every_size(2013265921, 1024);
     made::others();
-    numbers::run();
+    random_cases::run();
     counts::worked_sheet();
     counts::lost_gammas();
 }
