@@ -4,12 +4,12 @@
 // reason 6 counts them; and a line `.`. A buffer's line has its words; or it is
 //
 //     -         for an empty buffer,
-//     ?k        for k words that may hold anything, which are filled with marks,
+//     ?k        for a buffer that the call may write, ?0 for an empty one: k words or bytes that may hold anything, which are filled with marks,
 //     @NAME     for the bytes of a file beside it, which is a sheet.
 //
 // For a block is written the call and the words of its answer, as guppyspoon.h has them, and a line for each buffer that the call may write: `kept`
-// where it is as it came, `zeros` where it has words and all are 0, its words else. Every other buffer is looked at too, and so are the words behind
-// each, which were not lent: what is changed there gets a line of its own, which no expected output has.
+// where it is as it came, `zeros` where it has words and all are 0, its words else. The words behind it, which were not lent, are looked at too: what is
+// changed there gets a line of its own, which no expected output has.
 //
 // A line that begins with # stands outside of the blocks. It says what a case is for, and is written out as it stands.
 ghost use mathlib.Core.Path.{_≡_};

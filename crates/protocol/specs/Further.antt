@@ -79,7 +79,7 @@ broken s =
     ∷ brokenCopy (s .n) (constraints s) (witness s)
     ∷ zeroFactor (s .p) (s .n) (constraints s) (witness s) (s .beta) (s .gamma) ∷ []
 
--- THE SHEETS (named as in crates/vectors/data)
+-- THE SHEETS (named as in crates/cases/data/sheets, and ninetyseven as in crates/filed/data)
 
 -- seventeen
 abbrev seventeen : Sheet
