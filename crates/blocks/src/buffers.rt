@@ -162,3 +162,11 @@ pub fn look(line: &[u8], filled: bool, words: &Room) {
         print(b"words behind a buffer are changed\n");
     }
 }
+
+// A buffer that a call only reads is as it was, and so is the room behind it.
+pub fn hold(line: &[u8], words: &Room) {
+    let was = laid(line);
+    if !same(&words[..], &was[..], 0) {
+        print(b"a buffer that is only read is changed\n");
+    }
+}

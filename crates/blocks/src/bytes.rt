@@ -28,14 +28,18 @@ fn within(xs: &[u8], k: usize) -> usize
     if k < xs.len() { k } else { xs.len() }
 }
 
-// The bytes of a line, at the start of a room of marks; how many are lent. A file that cannot be read is told, and is lent as an empty sheet.
+// The bytes of a line, at the start of a room of marks; how many are lent. A file that cannot be read gets a line that no expected
+// output has.
 fn lay(line: &[u8], out: &mut [u8]) -> usize {
     if !lines::begins(line, b'@') {
         return buffers::marks(line);
     }
     match streams::read_named(lines::rest(line), out) {
         Got::Bytes(n) => n,
-        Got::Failed => 0,
+        Got::Failed => {
+            print(b"a file cannot be read\n");
+            0
+        }
     }
 }
 

@@ -1,6 +1,7 @@
 // The calls that are lent words, an arm each: a call that is added is one arm more.
 //
-// The letters a to f are its buffers in their order, to be read; x, y and z are those that it may write, in their order.
+// The letters a to f are its first six buffers, lent to be read; x, y and z are those that it may write, in their order. `open` asks one lifetime of its
+// first two.
 use blocks::lines::is;
 
 // The calls that are lent one number, n.

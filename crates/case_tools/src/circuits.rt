@@ -205,9 +205,11 @@ pub fn print_rows(s: Shape, words: &Words) {
     print::text(b"\n");
 }
 
-// The numbers that were written, or a digest where they are many.
+// The numbers that were written over marks, or a digest where they are many; `kept` where the marks are there.
 fn print_written(xs: &[u32]) {
-    if xs.len() <= 13 {
+    if buffers::same(xs, part(&buffers::marked(), 0, xs.len())) {
+        print::word(b"kept");
+    } else if xs.len() <= 13 {
         print::word(b"written");
         print::numbers(xs);
     } else {
@@ -246,7 +248,8 @@ pub fn every_polynomial(s: Shape, words: &Words) {
     let n = s.n as usize;
     let k = 16 * n;
     let mut values = [0u32; 13];
-    let mut quotient = buffers::room();
+    buffers::progression(&mut values, 3000000000, 1);
+    let mut quotient = buffers::marked();
     let mut scratch = buffers::marked();
     let a = buffers::within(&quotient, circuit::opening_length(n));
     let q = &mut quotient[..a];

@@ -8,8 +8,8 @@
 //     @NAME     for the bytes of a file beside it, which is a sheet.
 //
 // For a block is written the call and the words of its answer, as guppyspoon.h has them, and a line for each buffer that the call may write: `kept`
-// where it is as it came, `zeros` where it has words and all are 0, its words else. The words behind it, which were not lent, are looked at too: what is
-// changed there gets a line of its own, which no expected output has.
+// where it is as it came, `zeros` where it has words and all are 0, its words else. The words behind it, which were not lent, are looked at too, and so are
+// the buffers of words that a call only reads: what is changed there gets a line of its own, which no expected output has.
 //
 // A line that begins with # stands outside of the blocks. It says what a case is for, and is written out as it stands.
 ghost use mathlib.Core.Path.{_≡_};

@@ -1,4 +1,4 @@
-// The calls that are lent sheets.
+// The calls that are lent sheets. An answer has room for a word more than the call writes, so that one too many shows.
 use blocks::buffers;
 use blocks::buffers::MARK;
 use blocks::bytes;
@@ -10,7 +10,7 @@ use blocks::print;
 
 // The call `deposit` of a block.
 pub fn deposit(s: &[u8]) {
-    let mut answer = [MARK; 3];
+    let mut answer = [MARK; 4];
     let sheet = laid(line(s, 2));
     let mut text = laid(line(s, 3));
     exports::guppyspoon_deposit(
@@ -24,7 +24,7 @@ pub fn deposit(s: &[u8]) {
 
 // The call `join` of a block.
 pub fn join(s: &[u8]) {
-    let mut answer = [MARK; 3];
+    let mut answer = [MARK; 4];
     let one = laid(line(s, 2));
     let two = laid(line(s, 3));
     let mut joined = laid(line(s, 4));
@@ -40,7 +40,7 @@ pub fn join(s: &[u8]) {
 
 // The call `read` of a block.
 pub fn read(s: &[u8]) {
-    let mut answer = [MARK; 5];
+    let mut answer = [MARK; 6];
     let sheet = laid(line(s, 2));
     let mut b = buffers::laid(line(s, 3));
     let mut c = buffers::laid(line(s, 4));

@@ -1,5 +1,6 @@
 // The calls that are lent words: a block's buffers are filled, lent and looked at. The line of buffer k is the block's line k + 1.
 use blocks::buffers;
+use blocks::buffers::hold;
 use blocks::buffers::laid;
 use blocks::buffers::lent;
 use blocks::buffers::look;
@@ -8,10 +9,10 @@ use blocks::lines;
 use blocks::lines::line;
 use blocks::print;
 
-// The call that a block names. A call has six buffers that it only reads at most, and three that it may write, which are the block's lines `?k`.
+// The call that a block names, with room for a word more than an answer has, so that one too many shows. A call has six buffers that it only reads at most, and three that it may write, which are the block's lines `?k`.
 pub fn run(s: &[u8]) {
     let mut numbers = [0u32; 3];
-    let mut answer = [buffers::MARK; 4];
+    let mut answer = [buffers::MARK; 5];
     lines::numbers(line(s, 1), &mut numbers);
     let a = laid(line(s, 2));
     let b = laid(line(s, 3));
@@ -43,4 +44,10 @@ pub fn run(s: &[u8]) {
     look(line(s, i), false, &x);
     look(line(s, j), false, &y);
     look(line(s, k), false, &z);
+    hold(line(s, 2), &a);
+    hold(line(s, 3), &b);
+    hold(line(s, 4), &c);
+    hold(line(s, 5), &d);
+    hold(line(s, 6), &e);
+    hold(line(s, 7), &f);
 }

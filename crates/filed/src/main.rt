@@ -33,6 +33,13 @@ fn says(text: &[u8], at: usize, bytes: &[u8]) -> bool {
     true
 }
 
+// A line that is out of form: a word that is no element stands at the polynomial's end, so that every call refuses the transcript, and no verdict stands
+// behind it.
+fn out_of_form(text: &[u8], words: &mut [u32], end: usize) -> usize {
+    buffers::put(words, std::num::wrapping_sub_usize(end, 1), 4294967295);
+    text.len()
+}
+
 // The coefficients of a polynomial, which stand on a line behind a letter and a comma, written from a place on; where the next line starts.
 fn polynomial(text: &[u8], at: usize, words: &mut [u32], place: usize, count: usize) -> usize {
     let mut read = buffers::room();
@@ -40,14 +47,15 @@ fn polynomial(text: &[u8], at: usize, words: &mut [u32], place: usize, count: us
     if k == 0 {
         return at;
     }
-    if archive::TEXT_LENGTH < text.len() {
-        return at;
-    }
     let start = std::num::wrapping_add_usize(at, 2);
-    if text.len() < start {
-        return at;
+    let end = std::num::wrapping_add_usize(place, count);
+    if archive::TEXT_LENGTH < text.len() || text.len() < start {
+        return out_of_form(text, words, end);
     }
     let line = text::line(text, start, &mut read[..k]);
+    if !line.ok {
+        return out_of_form(text, words, end);
+    }
     buffers::lay(part(&read, 0, k), words, place);
     line.next
 }

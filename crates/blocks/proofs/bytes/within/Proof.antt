@@ -5,11 +5,9 @@ use native.Mathlib.Omega.{arith}
 use Rattle.blocks.proofs.bytes.within.Statement.{statement}
 use Rattle.blocks.proofs.bytes.within.Tie as tie
 
-returns : tie.Need-returns
-returns c = (omega arith, sym (length-take-le _ _ (omega arith)))
-
-returns-2 : tie.Need-returns-2
-returns-2 c = (omega arith, sym (length-take-le _ _ (omega arith)))
-
 pub within-spec : {M : Type 1} → statement M
-within-spec = tie.close (tie.spec returns returns-2)
+within-spec =
+    tie.close
+    (tie.spec
+    (λ c. (omega arith, sym (length-take-le _ _ (omega arith))))
+    (λ c. (omega arith, sym (length-take-le _ _ (omega arith)))))
