@@ -7,13 +7,14 @@ ghost use lib.ListN.{length};
 ghost use Rattle.io.specs.Counts.{Counts};
 use super::lines;
 use super::print;
+use super::words::MARK;
+use super::words::progression;
+use super::words::same;
+use super::words::within;
 use streams::print;
 
 // The words of a room: more than the longest buffer of a case has, which is the working area of 32,768 for 2,048 rows, one power of two too many.
 const ROOM: usize = 36864;
-
-// The first mark. It is above every prime.
-pub const MARK: u32 = 3000000000;
 
 pub type Room = [u32; ROOM];
 
@@ -21,22 +22,6 @@ fn room() -> Room
     ensures { λ r. ⌜ 36864 ≡ length r ⌝ }
 {
     [0; ROOM]
-}
-
-// How many of the first k words there are: k, or the length where that is less.
-pub fn within(xs: &[u32], k: usize) -> usize
-    ensures { λ r. ⌜ Counts r (now (xs .entry)) ⌝ }
-{
-    if k < xs.len() { k } else { xs.len() }
-}
-
-// Marks everywhere, no two the same.
-fn mark(xs: &mut [u32]) {
-    let mut x = MARK;
-    for i in 0..xs.len() {
-        xs[i] = x;
-        x = std::num::wrapping_add_u32(x, 1);
-    }
 }
 
 // The k of a line `?k`; 0 for any other.
@@ -50,7 +35,7 @@ pub fn marks(line: &[u8]) -> usize {
 
 // The words of a line, at the start of a room of marks; how many are lent.
 fn lay(line: &[u8], out: &mut [u32]) -> usize {
-    mark(out);
+    progression(out, MARK, 1);
     if lines::begins(line, b'-') || lines::begins(line, b'@') {
         return 0;
     }
@@ -88,21 +73,6 @@ pub fn lent<'a>(xs: &'a mut [u32], line: &[u8]) -> &'a mut [u32] {
     let k = count(line);
     let m = within(xs, k);
     &mut xs[..m]
-}
-
-// Two buffers of one length have the same words, from a place on.
-fn same(xs: &[u32], ys: &[u32], from: usize) -> bool {
-    if xs.len() != ys.len() {
-        return false;
-    }
-    let mut i = from;
-    while i < xs.len() {
-        if xs[i] != ys[i] {
-            return false;
-        }
-        i += 1;
-    }
-    true
 }
 
 // How many words there are up to the last that is not 0.

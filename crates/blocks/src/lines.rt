@@ -2,6 +2,7 @@
 ghost use Prim.Native.Nat.{_+_, _≤_, _<_};
 ghost use lib.ListN.{length};
 ghost use Rattle.io.specs.Counts.{Counts};
+use super::words::put;
 
 // Where the line that has place `at` ends: its newline's place, or the text's end.
 fn end(s: &[u8], at: usize) -> usize
@@ -113,13 +114,6 @@ fn counted(k: usize, b: u8) -> usize
     ensures { λ r. ⌜ r ≤ k + 1 ⌝ }
 {
     if b == b',' { k + 1 } else { k }
-}
-
-// x at a place, where there is that place.
-fn put(xs: &mut [u32], place: usize, x: u32) {
-    if place < xs.len() {
-        xs[place] = x;
-    }
 }
 
 // The numbers of a line, with a comma between them, as many as there is room for, at the start of `out`; how many there are. An empty line has none.

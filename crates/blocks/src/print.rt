@@ -1,5 +1,5 @@
 // Numbers in the output.
-use super::buffers::MARK;
+use super::words::MARK;
 use streams::print;
 
 pub fn number(x: u64) {

@@ -1,7 +1,11 @@
 // Buffers to lend: made, filled, and looked at afterwards.
 ghost use mathlib.Core.Path.{_≡_};
 ghost use Prim.Native.Nat.{_≤_};
-ghost use lib.ListN.{length, take};
+ghost use lib.ListN.{length};
+use blocks::words::MARK;
+use blocks::words::progression;
+use blocks::words::put;
+use blocks::words::within;
 
 // A buffer with room for a circuit and all that belongs to it, or for a scratch, of 1,024 rows.
 pub type Words = [u32; 32768];
@@ -17,14 +21,6 @@ pub fn copy(words: Words) -> Words
     ensures { λ r. ⌜ 32768 ≡ length r ⌝ }
 {
     words
-}
-
-// How many of the first n words there are: n, or the length where that is less. The last fact follows from the one before, and lends
-// `&xs[..r]` with no proof.
-pub fn within(xs: &[u32], n: usize) -> usize
-    ensures { λ r. ⌜ (r ≤ n) × (r ≤ length (now (xs .entry))) × (r ≡ length (take r (now (xs .entry)))) ⌝ }
-{
-    if n < xs.len() { n } else { xs.len() }
 }
 
 // So many words from a place on, or those that there are.
@@ -49,26 +45,10 @@ pub fn at(xs: &[u32], place: usize) -> u32 {
     if place < xs.len() { xs[place] } else { 0 }
 }
 
-// x at a place, where the buffer has that place.
-pub fn put(xs: &mut [u32], place: usize, x: u32) {
-    if place < xs.len() {
-        xs[place] = x;
-    }
-}
-
 // Words written from a place on, as many as there is room for.
 pub fn lay(xs: &[u32], out: &mut [u32], place: usize) {
     for i in 0..xs.len() {
         put(out, std::num::wrapping_add_usize(place, i), xs[i]);
-    }
-}
-
-// Numbers from `first` on, each `step` more than the one before.
-pub fn progression(xs: &mut [u32], first: u32, step: u32) {
-    let mut x = first;
-    for i in 0..xs.len() {
-        xs[i] = x;
-        x = std::num::wrapping_add_u32(x, step);
     }
 }
 
@@ -77,20 +57,8 @@ pub fn marked() -> Words
     ensures { λ r. ⌜ 32768 ≡ length r ⌝ }
 {
     let mut xs = room();
-    progression(&mut xs, 3000000000, 1);
+    progression(&mut xs, MARK, 1);
     xs
-}
-
-pub fn same(xs: &[u32], ys: &[u32]) -> bool {
-    if xs.len() != ys.len() {
-        return false;
-    }
-    for i in 0..xs.len() {
-        if xs[i] != ys[i] {
-            return false;
-        }
-    }
-    true
 }
 
 // a + b × c modulo p, and 0 for p = 0.

@@ -4,6 +4,10 @@ use super::buffers::Words;
 use super::buffers::first;
 use super::buffers::part;
 use super::print;
+use blocks::words::MARK;
+use blocks::words::progression;
+use blocks::words::same;
+use blocks::words::within;
 use field::Answer;
 use pointcheck::Judged;
 use rowcheck::Identity;
@@ -207,7 +211,7 @@ pub fn print_rows(s: Shape, words: &Words) {
 
 // The numbers that were written over marks, or a digest where they are many; `kept` where the marks are there.
 fn print_written(xs: &[u32]) {
-    if buffers::same(xs, part(&buffers::marked(), 0, xs.len())) {
+    if same(xs, part(&buffers::marked(), 0, xs.len()), 0) {
         print::word(b"kept");
     } else if xs.len() <= 13 {
         print::word(b"written");
@@ -248,10 +252,10 @@ pub fn every_polynomial(s: Shape, words: &Words) {
     let n = s.n as usize;
     let k = 16 * n;
     let mut values = [0u32; 13];
-    buffers::progression(&mut values, 3000000000, 1);
+    progression(&mut values, MARK, 1);
     let mut quotient = buffers::marked();
     let mut scratch = buffers::marked();
-    let a = buffers::within(&quotient, circuit::opening_length(n));
+    let a = within(&quotient, circuit::opening_length(n));
     let q = &mut quotient[..a];
     let answer = opening::open(
         s.p,

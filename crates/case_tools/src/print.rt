@@ -1,5 +1,6 @@
 // Lines of output: a label, then words and numbers with a comma before each.
 use super::buffers;
+use blocks::words::same;
 use field::Answer;
 
 // Bytes as they are: a label at a line's start.
@@ -46,9 +47,9 @@ pub fn answer(a: Answer) {
 
 // What became of the start of a marked buffer: `kept`, `cleared`, or a digest of what was written.
 pub fn left(xs: &[u32]) {
-    if buffers::same(xs, buffers::part(&buffers::marked(), 0, xs.len())) {
+    if same(xs, buffers::part(&buffers::marked(), 0, xs.len()), 0) {
         word(b"kept");
-    } else if buffers::same(xs, buffers::part(&buffers::room(), 0, xs.len())) {
+    } else if same(xs, buffers::part(&buffers::room(), 0, xs.len()), 0) {
         word(b"cleared");
     } else {
         number(buffers::digest(xs));

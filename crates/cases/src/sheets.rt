@@ -1,12 +1,12 @@
 // The calls that are lent sheets. An answer has room for a word more than the call writes, so that one too many shows.
 use blocks::buffers;
-use blocks::buffers::MARK;
 use blocks::bytes;
 use blocks::bytes::laid;
 use blocks::bytes::lent;
 use blocks::bytes::part;
 use blocks::lines::line;
 use blocks::print;
+use blocks::words::MARK;
 
 // The call `deposit` of a block.
 pub fn deposit(s: &[u8]) {

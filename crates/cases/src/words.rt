@@ -1,5 +1,4 @@
 // The calls that are lent words: a block's buffers are filled, lent and looked at. The line of buffer k is the block's line k + 1.
-use blocks::buffers;
 use blocks::buffers::hold;
 use blocks::buffers::laid;
 use blocks::buffers::lent;
@@ -8,11 +7,13 @@ use blocks::buffers::part;
 use blocks::lines;
 use blocks::lines::line;
 use blocks::print;
+use blocks::words::MARK;
 
-// The call that a block names, with room for a word more than an answer has, so that one too many shows. A call has six buffers that it only reads at most, and three that it may write, which are the block's lines `?k`.
+// The call that a block names. A call has at most six buffers that it only reads, three that it may write, which are the block's lines `?k`, and four words
+// of answer: there is room for one more, so that one too many shows.
 pub fn run(s: &[u8]) {
     let mut numbers = [0u32; 3];
-    let mut answer = [buffers::MARK; 5];
+    let mut answer = [MARK; 5];
     lines::numbers(line(s, 1), &mut numbers);
     let a = laid(line(s, 2));
     let b = laid(line(s, 3));

@@ -7,6 +7,8 @@
 // the transcript is accepted, `of`, how many were tried, and the row verdict; the same count where the first coefficient of t is changed, and the row
 // verdict where the last content is; `open` and `check_opening` for every polynomial; and what `prove`, `deposit` and `join` answer where the sheet is
 // taken as a new one.
+use blocks::words::put;
+use blocks::words::within;
 use case_tools::buffers;
 use case_tools::buffers::Words;
 use case_tools::buffers::part;
@@ -36,14 +38,14 @@ fn says(text: &[u8], at: usize, bytes: &[u8]) -> bool {
 // A line that is out of form: a word that is no element stands at the polynomial's end, so that every call refuses the transcript, and no verdict stands
 // behind it.
 fn out_of_form(text: &[u8], words: &mut [u32], end: usize) -> usize {
-    buffers::put(words, std::num::wrapping_sub_usize(end, 1), 4294967295);
+    put(words, std::num::wrapping_sub_usize(end, 1), 4294967295);
     text.len()
 }
 
 // The coefficients of a polynomial, which stand on a line behind a letter and a comma, written from a place on; where the next line starts.
 fn polynomial(text: &[u8], at: usize, words: &mut [u32], place: usize, count: usize) -> usize {
     let mut read = buffers::room();
-    let k = buffers::within(&read, count);
+    let k = within(&read, count);
     if k == 0 {
         return at;
     }

@@ -1,10 +1,10 @@
--- `case_tools::buffers::progression` is safe and ends: the words are written in turn. Assumes nothing.
+-- `blocks::words::progression` is safe and ends: the words are written in turn. Assumes nothing.
 use mathlib.Core.Path.{_≡_}
 use Prim.Native.Nat.{_-_, _≤_}
 use lib.ListN.{length}
 use borrow.Author.Needs.{needs}
-use Rattle.case_tools.proofs.buffers.progression.Statement.{statement}
-use Rattle.case_tools.proofs.buffers.progression.Tie as tie
+use Rattle.blocks.proofs.words.progression.Statement.{statement}
+use Rattle.blocks.proofs.words.progression.Tie as tie
 
 pub progression-spec : {M : Type 1} → statement M
 progression-spec =
