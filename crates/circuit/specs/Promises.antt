@@ -5,8 +5,8 @@
 -- Part                      a part of a lent buffer: the buffer, where the part starts, how many numbers it has
 -- noPart transcript         the empty part at the transcript's start
 -- preparedPlace n s prepared               polynomial s of a lent prepared circuit
--- wirePlace n c transcript, zPlace, tPlace the wire of column c, z and t of a lent transcript
--- numberedPart n k prepared transcript     polynomial k of lent buffers of the right lengths
+-- wirePlace e n c transcript, zPlace, tPlace   the wire of column c, z and t of a lent transcript
+-- numberedPart e n k prepared transcript   polynomial k of lent buffers of the right lengths
 -- polynomialPart n k prepared transcript   the same of any lent buffers: none where n or a length is wrong
 -- Hands P r                 what `polynomial` promises of the part r that it hands back: it has the numbers of P, and lies where they lie
 --
@@ -23,7 +23,7 @@ use Rattle.field.specs.declared.Answer.{Answer}
 use Rattle.field.specs.Fields.{isRows}
 use Rattle.field.specs.Reasons.{answerOf, isAccepted}
 use Rattle.circuit.specs.Circuit.{permutation}
-use Rattle.circuit.specs.Buffers.{labelsLength, preparedLength, wireLength, zLength, quotientLength, transcriptLength, preparedStart, wireStart, zStart, tStart, byNumber}
+use Rattle.circuit.specs.Buffers.{labelsLength, preparedLength, wireLength, zLength, quotientLength, transcriptLength, blindedBy, preparedStart, wireStart, zStart, tStart, byNumber}
 use Rattle.circuit.specs.Reasons.{permutationReasons}
 
 -- refused: the positions as they came; accepted: the position that the permutation leads to from each. The labels are only read.
@@ -45,23 +45,24 @@ noPart transcript = record { buffer = transcript; start = 0; count = 0 }
 abbrev pub preparedPlace : ℕ → ℕ → RefT (List ℕ) → Part
 preparedPlace n s prepared = record { buffer = prepared; start = preparedStart n s; count = n }
 
-abbrev pub wirePlace : ℕ → ℕ → RefT (List ℕ) → Part
-wirePlace n c transcript = record { buffer = transcript; start = wireStart n c; count = wireLength n }
+abbrev pub wirePlace : ℕ → ℕ → ℕ → RefT (List ℕ) → Part
+wirePlace e n c transcript = record { buffer = transcript; start = wireStart e n c; count = wireLength e n }
 
-abbrev pub zPlace : ℕ → RefT (List ℕ) → Part
-zPlace n transcript = record { buffer = transcript; start = zStart n; count = zLength n }
+abbrev pub zPlace : ℕ → ℕ → RefT (List ℕ) → Part
+zPlace e n transcript = record { buffer = transcript; start = zStart e n; count = zLength e n }
 
-abbrev pub tPlace : ℕ → RefT (List ℕ) → Part
-tPlace n transcript = record { buffer = transcript; start = tStart n; count = quotientLength n }
+abbrev pub tPlace : ℕ → ℕ → RefT (List ℕ) → Part
+tPlace e n transcript = record { buffer = transcript; start = tStart e n; count = quotientLength e n }
 
-abbrev pub numberedPart : ℕ → ℕ → RefT (List ℕ) → RefT (List ℕ) → Part
-numberedPart n k prepared transcript =
-    byNumber k (λ s. preparedPlace n s prepared) (λ c. wirePlace n c transcript) (zPlace n transcript) (tPlace n transcript) (noPart transcript)
+abbrev pub numberedPart : ℕ → ℕ → ℕ → RefT (List ℕ) → RefT (List ℕ) → Part
+numberedPart e n k prepared transcript =
+    byNumber k (λ s. preparedPlace n s prepared) (λ c. wirePlace e n c transcript) (zPlace e n transcript) (tPlace e n transcript) (noPart transcript)
 
 abbrev pub polynomialPart : ℕ → ℕ → RefT (List ℕ) → RefT (List ℕ) → Part
 polynomialPart n k prepared transcript =
-    cond (anyRows n && (eqb (length (now prepared)) (preparedLength n) && eqb (length (now transcript)) (transcriptLength n)))
-    (numberedPart n k prepared transcript)
+    let e : ℕ = blindedBy n (now transcript) in
+    cond (anyRows n && (eqb (length (now prepared)) (preparedLength n) && eqb (length (now transcript)) (transcriptLength e n)))
+    (numberedPart e n k prepared transcript)
     (noPart transcript)
 
 -- a number takes 4 bytes

@@ -10,19 +10,20 @@
 -- permutationDue, permutationReasons   of `permutation`
 -- prepareDue, prepareReasons           of `prepare`
 -- rowsDue, rowsReasons                 of `check_rows`
--- pointDue, pointReasons               of `check_point`
--- proveDue, proveBufferReasons         of `prove`, but for those that look at the witness (9, 10, 11) and that of a retired prime (16)
+-- pointDue, pointReasons               of `check_point`, which takes a transcript of either length
+-- proveDue e, proveLong e, proveBufferReasons e   the lengths due and the lengths that are lent, and the reasons, of `prove` (e is 0) and of `prove_blinded` (e is 1), but for
+--                                      those that look at the witness (9, 10, 11) and that of a retired prime (16)
 --
 -- Assumes nothing.
 use mathlib.Core.Bool.{not}
 use mathlib.Core.List.{List, [], _∷_, _++_}
 use Prim.Native.Nat.{ℕ, _*_}
-use lib.ListN.{length}
+use lib.ListN.{length, replicate}
 use Rattle.algebra.specs.Modular.{first}
 use Rattle.field.specs.Reasons.{Reason, lentReasons, reasonAt, firstAbove, badElement}
 use Rattle.transform.specs.Transform.{scratchLength}
 use Rattle.circuit.specs.Circuit.{Constraints, isPublicRow, lentConstraints}
-use Rattle.circuit.specs.Buffers.{selectorsLength, labelsLength, witnessLength, preparedLength, transcriptLength}
+use Rattle.circuit.specs.Buffers.{selectorsLength, labelsLength, witnessLength, preparedLength, transcriptLength, workLength, blinderCount, blindedBy}
 
 abbrev pub badLabel : ℕ → List ℕ → Reason
 badLabel n labels = reasonAt 8 (firstAbove (3 * n) labels) (length labels)
@@ -66,21 +67,26 @@ rowsReasons p n l selectors labels witness publics z challenges =
     ++ numberReasons p n l (selectors ++ (witness ++ (publics ++ (z ++ challenges)))) selectors labels
 
 -- `check_point`: public inputs, prepared circuit, transcript, challenges, scratch
-abbrev pub pointDue : (n l : ℕ) → List ℕ
-pointDue n l = l ∷ preparedLength n ∷ transcriptLength n ∷ 4 ∷ scratchLength n ∷ []
+abbrev pub pointDue : (e n l : ℕ) → List ℕ
+pointDue e n l = l ∷ preparedLength n ∷ transcriptLength e n ∷ 4 ∷ workLength e n ∷ []
 
 abbrev pub pointReasons : (p n l : ℕ) (publics prepared transcript challenges scratch : List ℕ) → List Reason
 pointReasons p n l publics prepared transcript challenges scratch =
-    lentReasons p n l (length publics ∷ length prepared ∷ length transcript ∷ length challenges ∷ length scratch ∷ []) (pointDue n l)
+    lentReasons p n l (length publics ∷ length prepared ∷ length transcript ∷ length challenges ∷ length scratch ∷ []) (pointDue (blindedBy n transcript) n l)
     ++ (badElement p (publics ++ (prepared ++ (transcript ++ challenges))) ∷ [])
 
--- `prove`: selectors, labels, witness, public inputs, transcript, challenges, scratch
-abbrev pub proveDue : (n l : ℕ) → List ℕ
-proveDue n l = selectorsLength n ∷ labelsLength n ∷ witnessLength n ∷ l ∷ transcriptLength n ∷ 3 ∷ scratchLength n ∷ []
+-- `prove`: selectors, labels, witness, public inputs, transcript, challenges, scratch; `prove_blinded` has the blinders straight behind the challenges
+abbrev pub proveDue : (e n l : ℕ) → List ℕ
+proveDue e n l =
+    selectorsLength n ∷ labelsLength n ∷ witnessLength n ∷ l ∷ transcriptLength e n ∷ 3 ∷ (replicate e blinderCount ++ (workLength e n ∷ []))
 
-abbrev pub proveBufferReasons : (p n l : ℕ) (selectors labels witness publics transcript challenges scratch : List ℕ) → List Reason
-proveBufferReasons p n l selectors labels witness publics transcript challenges scratch =
-    lentReasons p n l
-    (length selectors ∷ length labels ∷ length witness ∷ length publics ∷ length transcript ∷ length challenges ∷ length scratch ∷ [])
-    (proveDue n l)
-    ++ numberReasons p n l (selectors ++ (witness ++ (publics ++ challenges))) selectors labels
+abbrev pub proveLong : (e : ℕ) (selectors labels witness publics transcript challenges blinders scratch : List ℕ) → List ℕ
+proveLong e selectors labels witness publics transcript challenges blinders scratch =
+    length selectors ∷ length labels ∷ length witness ∷ length publics ∷ length transcript ∷ length challenges
+    ∷ (replicate e (length blinders) ++ (length scratch ∷ []))
+
+-- where e is 0 there are no blinders
+abbrev pub proveBufferReasons : (e p n l : ℕ) (selectors labels witness publics transcript challenges blinders scratch : List ℕ) → List Reason
+proveBufferReasons e p n l selectors labels witness publics transcript challenges blinders scratch =
+    lentReasons p n l (proveLong e selectors labels witness publics transcript challenges blinders scratch) (proveDue e n l)
+    ++ numberReasons p n l (selectors ++ (witness ++ (publics ++ (challenges ++ blinders)))) selectors labels

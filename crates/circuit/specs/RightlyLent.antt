@@ -32,7 +32,8 @@ use Rattle.transform.specs.Transform.{scratchLength}
 use Rattle.circuit.specs.Circuit.{Constraints, Circuit, position, isPublicRow, lentConstraints}
 use Rattle.circuit.specs.Positions.{by-position}
 use Rattle.circuit.specs.Ahead.{Labels}
-use Rattle.circuit.specs.Buffers.{selectorCount, selectorsLength, labelsLength, witnessLength, preparedLength, transcriptLength}
+use Rattle.circuit.specs.Buffers.{selectorCount, selectorsLength, labelsLength, witnessLength, preparedLength, transcriptLength, workLength}
+use Rattle.circuit.specs.Parts.{blinded-of}
 use Rattle.circuit.specs.Reasons.{unboundRow, numberReasons, prepareDue, prepareReasons, rowsDue, rowsReasons, pointDue, pointReasons}
 
 pub record RightCircuit (p n l : ℕ) (selectors labels : List ℕ) : Type 0 where
@@ -162,17 +163,18 @@ module _ {p n : ℕ} (A : Admissible p n) where
       (all-append P witness _ (w .below) (all-append P publics _ (x .below) (all-append P z _ (u .below) (c .below)))))
       R
 
-  pub point-taken : {l : ℕ} {publics prepared transcript challenges : List ℕ} (scratch : List ℕ) → l ≤ n → Elements p l publics
-      → Elements p (preparedLength n) prepared → Elements p (transcriptLength n) transcript → Elements p 4 challenges → length scratch ≡ scratchLength n
+  pub point-taken : {l : ℕ} {publics prepared transcript challenges : List ℕ} (e : ℕ) (scratch : List ℕ) → e ≤ 1 → l ≤ n → Elements p l publics
+      → Elements p (preparedLength n) prepared → Elements p (transcriptLength e n) transcript → Elements p 4 challenges → length scratch ≡ workLength e n
       → answerOf (pointReasons p n l publics prepared transcript challenges scratch) ≡ record { number = 0; detail = 0 }
-  point-taken {l} {publics} {prepared} {transcript} {challenges} scratch few x u t c s =
+  point-taken {l} {publics} {prepared} {transcript} {challenges} e scratch he few x u t c s =
       let P : ℕ → Type 0 = λ x. x < p in
       let long : List ℕ = length publics ∷ length prepared ∷ length transcript ∷ length challenges ∷ length scratch ∷ [] in
       let all : List ℕ = publics ++ (prepared ++ (transcript ++ challenges)) in
-      both-taken (lentReasons p n l long (pointDue n l)) (badElement p all ∷ []) (lent-numbers p n l long (pointDue n l))
+      rw (blinded-of e n transcript he (t .long))
+      (both-taken (lentReasons p n l long (pointDue e n l)) (badElement p all ∷ []) (lent-numbers p n l long (pointDue e n l))
       (lent-taken
       (record { admissible = A; publics-few = few; lengths = cc (x .long, u .long, t .long, c .long, s) }))
       (taken (badElement p all ∷ []) (
         elements-none p all (all-append P publics _ (x .below) (all-append P prepared _ (u .below) (all-append P transcript _ (t .below) (c .below)))),
         tt,
-      ))
+      )))

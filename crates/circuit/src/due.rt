@@ -1,6 +1,8 @@
 // The lengths due of a call's buffers, in the order in which they are counted; l is the number of public inputs.
 ghost use mathlib.Core.Path.{_≡_};
-ghost use Prim.Native.Nat.{_<_};
+ghost use mathlib.Core.List.{[], _∷_, _++_};
+ghost use Prim.Native.Nat.{_+_, _<_, _≤_};
+ghost use lib.ListN.{length, take, replicate};
 ghost use Rattle.circuit.specs.Reasons.{permutationDue, prepareDue, rowsDue, pointDue, proveDue};
 use super::lengths;
 use transform::scratch_length;
@@ -42,31 +44,45 @@ pub fn rows(n: usize, l: usize) -> [usize; 6]
 }
 
 // `check_point`: public inputs, prepared circuit, transcript, challenges, scratch.
-pub fn point(n: usize, l: usize) -> [usize; 5]
-    requires { ⌜ n < 4294967296 ⌝ }
-    ensures { λ r. ⌜ r ≡ pointDue n l ⌝ }
+pub fn point(e: usize, n: usize, l: usize) -> [usize; 5]
+    requires { ⌜ (e ≤ 1) × (n < 4294967296) ⌝ }
+    ensures { λ r. ⌜ r ≡ pointDue e n l ⌝ }
 {
     [
         l,
         lengths::prepared_length(n),
-        lengths::transcript_length(n),
+        lengths::transcript_length(e, n),
         4,
-        scratch_length(n),
+        lengths::work_length(e, n),
     ]
 }
 
-// `prove`: selectors, labels, witness, public inputs, transcript, challenges, scratch.
-pub fn prove(n: usize, l: usize) -> [usize; 7]
-    requires { ⌜ n < 4294967296 ⌝ }
-    ensures { λ r. ⌜ r ≡ proveDue n l ⌝ }
+// What stands behind the challenges in a table of the prover's lengths: that of the blinders, or of the scratch where nothing is blinded.
+pub fn behind(e: usize, blinders: usize, scratch: usize) -> usize
+    requires { ⌜ e ≤ 1 ⌝ }
+    ensures { λ r. ⌜ take (1 + e) (r ∷ scratch ∷ []) ≡ replicate e blinders ++ (scratch ∷ []) ⌝ }
 {
+    if e == 0 {
+        return scratch;
+    }
+    blinders
+}
+
+// `prove`, and `prove_blinded` where e is 1: selectors, labels, witness, public inputs, transcript, challenges, the blinders of the latter, scratch. They are the first 7 + e.
+pub fn prove(e: usize, n: usize, l: usize) -> [usize; 8]
+    requires { ⌜ (e ≤ 1) × (n < 4294967296) ⌝ }
+    ensures { λ r. ⌜ (take (7 + e) r ≡ proveDue e n l) × (length r ≡ 8) ⌝ }
+{
+    let scratch = lengths::work_length(e, n);
+    let next = behind(e, lengths::BLINDER_COUNT, scratch);
     [
         lengths::selectors_length(n),
         lengths::labels_length(n),
         lengths::witness_length(n),
         l,
-        lengths::transcript_length(n),
+        lengths::transcript_length(e, n),
         3,
-        scratch_length(n),
+        next,
+        scratch,
     ]
 }

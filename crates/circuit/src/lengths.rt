@@ -1,9 +1,10 @@
-// How many numbers the lent buffers have for n rows, and where the polynomials start in them. (The scratch's length stands in `transform`.)
+// How many numbers the lent buffers have for n rows, and where the polynomials start in them. The number e is 1 where the transcript is blinded, else 0. (The
+// scratch's length, which the transforms have too, stands in `transform`.)
 ghost use mathlib.Core.Path.{_≡_};
-ghost use Prim.Native.Nat.{_<_};
+ghost use Prim.Native.Nat.{_<_, _≤_};
 ghost use lib.ListN.{length};
 ghost use Rattle.field.specs.Rooms.{rowsRoom};
-ghost use Rattle.circuit.specs.Buffers.{preparedCount, selectorsLength, labelsLength, witnessLength, preparedLength, wireLength, zLength, quotientLength, fLength, transcriptLength, openingLength, preparedStart, wireStart, zStart, tStart};
+ghost use Rattle.circuit.specs.Buffers.{preparedCount, selectorsLength, labelsLength, witnessLength, preparedLength, wireLength, zLength, quotientLength, fLength, transcriptLength, openingLength, workLength, blindedBy, preparedStart, wireStart, zStart, tStart};
 
 // The selectors of a row.
 pub const SELECTOR_COUNT: usize = 5;
@@ -31,6 +32,9 @@ pub const T_NUMBER: u32 = 12;
 
 // How many polynomials have a number: the numbers are those below it.
 pub const POLYNOMIAL_COUNT: usize = 13;
+
+// The numbers that blind a transcript: two for each wire, three for z.
+pub const BLINDER_COUNT: usize = 9;
 
 // The coefficients of a prepared circuit of the greatest number of rows.
 const PREPARED_ROOM: usize = PREPARED_COUNT * field::ROWS_ROOM;
@@ -64,46 +68,46 @@ pub fn prepared_length(n: usize) -> usize
 }
 
 // The coefficients of a wire.
-pub fn wire_length(n: usize) -> usize
-    requires { ⌜ n < 4294967296 ⌝ }
-    ensures { λ r. ⌜ r ≡ wireLength n ⌝ }
+pub fn wire_length(e: usize, n: usize) -> usize
+    requires { ⌜ (e ≤ 1) × (n < 4294967296) ⌝ }
+    ensures { λ r. ⌜ r ≡ wireLength e n ⌝ }
 {
-    n
+    n + 2 * e
 }
 
 // The coefficients of z.
-pub fn z_length(n: usize) -> usize
-    requires { ⌜ n < 4294967296 ⌝ }
-    ensures { λ r. ⌜ r ≡ zLength n ⌝ }
+pub fn z_length(e: usize, n: usize) -> usize
+    requires { ⌜ (e ≤ 1) × (n < 4294967296) ⌝ }
+    ensures { λ r. ⌜ r ≡ zLength e n ⌝ }
 {
-    n
+    n + 3 * e
 }
 
-// The coefficients of t: 3n - 3. No call works on 0 rows, but a length is asked for before n is known to be right.
-pub fn quotient_length(n: usize) -> usize
-    requires { ⌜ n < 4294967296 ⌝ }
-    ensures { λ r. ⌜ r ≡ quotientLength n ⌝ }
+// The coefficients of t: 3n - 3 + 9e. No call works on 0 rows, but a length is asked for before n is known to be right.
+pub fn quotient_length(e: usize, n: usize) -> usize
+    requires { ⌜ (e ≤ 1) × (n < 4294967296) ⌝ }
+    ensures { λ r. ⌜ r ≡ quotientLength e n ⌝ }
 {
     if n == 0 {
-        return 0;
+        return 9 * e;
     }
-    3 * n - 3
+    3 * n - 3 + 9 * e
 }
 
 // The coefficients of F: n more than t has.
-pub fn f_length(n: usize) -> usize
-    requires { ⌜ n < 4294967296 ⌝ }
-    ensures { λ r. ⌜ r ≡ fLength n ⌝ }
+pub fn f_length(e: usize, n: usize) -> usize
+    requires { ⌜ (e ≤ 1) × (n < 4294967296) ⌝ }
+    ensures { λ r. ⌜ r ≡ fLength e n ⌝ }
 {
-    n + quotient_length(n)
+    n + quotient_length(e, n)
 }
 
 // The coefficients of an opening polynomial: one less than t has.
-pub fn opening_length(n: usize) -> usize
-    requires { ⌜ n < 4294967296 ⌝ }
-    ensures { λ r. ⌜ r ≡ openingLength n ⌝ }
+pub fn opening_length(e: usize, n: usize) -> usize
+    requires { ⌜ (e ≤ 1) × (n < 4294967296) ⌝ }
+    ensures { λ r. ⌜ r ≡ openingLength e n ⌝ }
 {
-    let t = quotient_length(n);
+    let t = quotient_length(e, n);
     if t == 0 {
         return 0;
     }
@@ -126,32 +130,51 @@ pub fn prepared_start(n: usize, s: usize) -> usize
 }
 
 // Where the wire of a column starts in a transcript.
-pub fn wire_start(n: usize, column: usize) -> usize
-    requires { ⌜ (n < 4294967296) × (column < 3) ⌝ }
-    ensures { λ r. ⌜ r ≡ wireStart n column ⌝ }
+pub fn wire_start(e: usize, n: usize, column: usize) -> usize
+    requires { ⌜ (e ≤ 1) × (n < 4294967296) × (column < 3) ⌝ }
+    ensures { λ r. ⌜ r ≡ wireStart e n column ⌝ }
 {
-    column * wire_length(n)
+    column * wire_length(e, n)
 }
 
 // Where z starts in a transcript.
-pub fn z_start(n: usize) -> usize
-    requires { ⌜ n < 4294967296 ⌝ }
-    ensures { λ r. ⌜ r ≡ zStart n ⌝ }
+pub fn z_start(e: usize, n: usize) -> usize
+    requires { ⌜ (e ≤ 1) × (n < 4294967296) ⌝ }
+    ensures { λ r. ⌜ r ≡ zStart e n ⌝ }
 {
-    3 * wire_length(n)
+    3 * wire_length(e, n)
 }
 
 // Where t starts in a transcript.
-pub fn t_start(n: usize) -> usize
-    requires { ⌜ n < 4294967296 ⌝ }
-    ensures { λ r. ⌜ r ≡ tStart n ⌝ }
+pub fn t_start(e: usize, n: usize) -> usize
+    requires { ⌜ (e ≤ 1) × (n < 4294967296) ⌝ }
+    ensures { λ r. ⌜ r ≡ tStart e n ⌝ }
 {
-    z_start(n) + z_length(n)
+    z_start(e, n) + z_length(e, n)
 }
 
-pub fn transcript_length(n: usize) -> usize
-    requires { ⌜ n < 4294967296 ⌝ }
-    ensures { λ r. ⌜ r ≡ transcriptLength n ⌝ }
+pub fn transcript_length(e: usize, n: usize) -> usize
+    requires { ⌜ (e ≤ 1) × (n < 4294967296) ⌝ }
+    ensures { λ r. ⌜ r ≡ transcriptLength e n ⌝ }
 {
-    t_start(n) + quotient_length(n)
+    t_start(e, n) + quotient_length(e, n)
+}
+
+// The scratch of a call that lays a transcript, or is lent one.
+pub fn work_length(e: usize, n: usize) -> usize
+    requires { ⌜ (e ≤ 1) × (n < 4294967296) ⌝ }
+    ensures { λ r. ⌜ r ≡ workLength e n ⌝ }
+{
+    transform::scratch_length(n) + 64 * e
+}
+
+// Whether a lent transcript is blinded, as the number e: its length alone decides.
+pub fn blinded_by(n: usize, transcript: &[u32]) -> usize
+    requires { ⌜ n < 4294967296 ⌝ }
+    ensures { λ r. ⌜ (r ≡ blindedBy n (now (transcript .entry))) × (r ≤ 1) ⌝ }
+{
+    if transcript.len() == transcript_length(1, n) {
+        return 1;
+    }
+    0
 }

@@ -19,10 +19,12 @@ mod witness;
 
 pub use copies::fill_permutation;
 pub use copies::lowest;
+pub use lengths::BLINDER_COUNT;
 pub use lengths::POLYNOMIAL_COUNT;
 pub use lengths::PREPARED_COUNT;
 pub use lengths::SELECTOR_COUNT;
 pub use lengths::WIRED_NUMBER;
+pub use lengths::blinded_by;
 pub use lengths::f_length;
 pub use lengths::labels_length;
 pub use lengths::opening_length;
@@ -34,6 +36,8 @@ pub use lengths::t_start;
 pub use lengths::transcript_length;
 pub use lengths::wire_length;
 pub use lengths::witness_length;
+pub use lengths::work_length;
+pub use lengths::z_length;
 pub use lengths::z_start;
 pub use parts::any_rows;
 pub use parts::prepared_part;
@@ -78,7 +82,7 @@ pub fn permutation(p: u32, n: u32, labels: &[u32], positions: &mut [u32]) -> Ans
     answer
 }
 
-// Polynomial `number` of the lent buffers: those of the prepared circuit come first, then the wires, z and t of the transcript. The empty part
+// Polynomial `number` of the lent buffers: those of the prepared circuit come first, then the wires, z and t of the transcript, which may be blinded. The empty part
 // at the transcript's start stands for any other number, and where n or a length is wrong.
 pub fn polynomial<'a>(n: u32, number: u32, prepared: &'a [u32], transcript: &'a [u32]) -> &'a [u32]
     ensures { λ r. ⌜ Hands (polynomialPart n number (prepared .entry) (transcript .entry)) r ⌝ }
@@ -90,8 +94,9 @@ pub fn polynomial<'a>(n: u32, number: u32, prepared: &'a [u32], transcript: &'a 
     if prepared.len() != lengths::prepared_length(m) {
         return &transcript[..0];
     }
-    if transcript.len() != lengths::transcript_length(m) {
+    let e = lengths::blinded_by(m, transcript);
+    if transcript.len() != lengths::transcript_length(e, m) {
         return &transcript[..0];
     }
-    parts::part(m, number, prepared, transcript)
+    parts::part(e, m, number, prepared, transcript)
 }

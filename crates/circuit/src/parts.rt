@@ -30,48 +30,54 @@ pub fn prepared_part(n: usize, s: usize, prepared: &[u32]) -> &[u32]
 }
 
 // The wire of a column, of a transcript or of its first part, which ends where t starts.
-pub fn wire_part(n: usize, column: usize, transcript: &[u32]) -> &[u32]
-    requires { ⌜ (n ≤ 1024) × (column < 3) × (tStart n ≤ length (now transcript)) ⌝ }
-    ensures { λ r. ⌜ Hands (wirePlace n column (transcript .entry)) r ⌝ }
-    ensures { λ r. ⌜ length (now r) ≡ wireLength n ⌝ }
+pub fn wire_part(e: usize, n: usize, column: usize, transcript: &[u32]) -> &[u32]
+    requires { ⌜ (e ≤ 1) × (n ≤ 1024) × (column < 3) × (tStart e n ≤ length (now transcript)) ⌝ }
+    ensures { λ r. ⌜ Hands (wirePlace e n column (transcript .entry)) r ⌝ }
+    ensures { λ r. ⌜ length (now r) ≡ wireLength e n ⌝ }
 {
-    let at = lengths::wire_start(n, column);
-    let end = at + lengths::wire_length(n);
+    let at = lengths::wire_start(e, n, column);
+    let end = at + lengths::wire_length(e, n);
     &transcript[at..end]
 }
 
 // z of a transcript or of its first part.
-pub fn z_part(n: usize, transcript: &[u32]) -> &[u32]
-    requires { ⌜ (n ≤ 1024) × (tStart n ≤ length (now transcript)) ⌝ }
-    ensures { λ r. ⌜ Hands (zPlace n (transcript .entry)) r ⌝ }
-    ensures { λ r. ⌜ length (now r) ≡ zLength n ⌝ }
+pub fn z_part(e: usize, n: usize, transcript: &[u32]) -> &[u32]
+    requires { ⌜ (e ≤ 1) × (n ≤ 1024) × (tStart e n ≤ length (now transcript)) ⌝ }
+    ensures { λ r. ⌜ Hands (zPlace e n (transcript .entry)) r ⌝ }
+    ensures { λ r. ⌜ length (now r) ≡ zLength e n ⌝ }
 {
-    let at = lengths::z_start(n);
-    let end = lengths::t_start(n);
+    let at = lengths::z_start(e, n);
+    let end = lengths::t_start(e, n);
     &transcript[at..end]
 }
 
 // t of a transcript: what stands behind z.
-pub fn t_part(n: usize, transcript: &[u32]) -> &[u32]
-    requires { ⌜ (n ≤ 1024) × (tStart n ≤ length (now transcript)) ⌝ }
-    ensures { λ r. ⌜ Hands (record { buffer = transcript .entry; start = tStart n; count = length (now (transcript .entry)) - tStart n }) r ⌝ }
-    ensures { λ r. ⌜ now r ≡ tPart n (now (transcript .entry)) ⌝ }
+pub fn t_part(e: usize, n: usize, transcript: &[u32]) -> &[u32]
+    requires { ⌜ (e ≤ 1) × (n ≤ 1024) × (tStart e n ≤ length (now transcript)) ⌝ }
+    ensures { λ r. ⌜ Hands (record { buffer = transcript .entry; start = tStart e n; count = length (now (transcript .entry)) - tStart e n }) r ⌝ }
+    ensures { λ r. ⌜ now r ≡ tPart e n (now (transcript .entry)) ⌝ }
 {
-    let at = lengths::t_start(n);
+    let at = lengths::t_start(e, n);
     &transcript[at..]
 }
 
 // Polynomial `number` of buffers of the right lengths, n being the number of rows.
-pub fn part<'a>(n: usize, number: u32, prepared: &'a [u32], transcript: &'a [u32]) -> &'a [u32]
-    requires { ⌜ (2 ≤ n) × (n ≤ 1024) ⌝ }
-    requires { ⌜ (length (now prepared) ≡ preparedLength n) × (length (now transcript) ≡ transcriptLength n) ⌝ }
-    ensures { λ r. ⌜ Hands (numberedPart n number (prepared .entry) (transcript .entry)) r ⌝ }
+pub fn part<'a>(
+    e: usize,
+    n: usize,
+    number: u32,
+    prepared: &'a [u32],
+    transcript: &'a [u32],
+) -> &'a [u32]
+    requires { ⌜ (e ≤ 1) × (2 ≤ n) × (n ≤ 1024) ⌝ }
+    requires { ⌜ (length (now prepared) ≡ preparedLength n) × (length (now transcript) ≡ transcriptLength e n) ⌝ }
+    ensures { λ r. ⌜ Hands (numberedPart e n number (prepared .entry) (transcript .entry)) r ⌝ }
 {
     match number {
         0..=PREPARED_LAST => prepared_part(n, number as usize, prepared),
-        WIRE_NUMBER..=WIRE_LAST => wire_part(n, (number - WIRE_NUMBER) as usize, transcript),
-        Z_NUMBER => z_part(n, transcript),
-        T_NUMBER => t_part(n, transcript),
+        WIRE_NUMBER..=WIRE_LAST => wire_part(e, n, (number - WIRE_NUMBER) as usize, transcript),
+        Z_NUMBER => z_part(e, n, transcript),
+        T_NUMBER => t_part(e, n, transcript),
         _ => &transcript[..0],
     }
 }

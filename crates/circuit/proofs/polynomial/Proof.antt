@@ -18,7 +18,7 @@ rows-known c = sym (c .before .any-rows .ensures) ∙ not-false _ (c .if1 .left)
 prepared-known : (c : tie.Else2) → length (c .before .before .before .before .before .before .args .prepared .now) ≡ preparedLength (c .before .before .before .before .before .before .args .n)
 prepared-known c = c .if2 .left ∙ c .before .prepared-length .ensures
 
-transcript-known : (c : tie.Else3) → length (c .before .before .before .before .before .before .before .before .args .transcript .now) ≡ transcriptLength (c .before .before .before .before .before .before .before .before .args .n)
+transcript-known : (c : tie.Else3) → length (c .before .before .before .before .before .before .before .before .before .args .transcript .now) ≡ transcriptLength (c .before .before .blinded-by .result) (c .before .before .before .before .before .before .before .before .before .args .n)
 transcript-known c = c .if3 .left ∙ c .before .transcript-length .ensures
 
 any-rows-requires : tie.Need-any-rows-requires
@@ -40,6 +40,9 @@ returns-2 : tie.Need-returns-2
 returns-2 c =
     rw (rows-known (c .before .before .before), ← c .before .before .prepared-length .ensures, ne-eqb _ _ (c .before .if2 .taken)) (hands-none _ _ refl refl)
 
+blinded-by-requires : tie.Need-blinded-by-requires
+blinded-by-requires c κs = search needs
+
 transcript-length-requires : tie.Need-transcript-length-requires
 transcript-length-requires c κs = search needs
 
@@ -49,8 +52,9 @@ slice-aggregate-result-3 c = search needs
 returns-3 : tie.Need-returns-3
 returns-3 c =
     rw (
-      rows-known (c .before .before .before .before .before),
-      eq-eqb _ _ (prepared-known (c .before .before .before)),
+      ← c .before .before .before .blinded-by .ensures .0,
+      rows-known (c .before .before .before .before .before .before),
+      eq-eqb _ _ (prepared-known (c .before .before .before .before)),
       ← c .before .before .transcript-length .ensures,
       ne-eqb _ _ (c .before .if3 .taken),
     )
@@ -58,14 +62,15 @@ returns-3 c =
 
 part-requires : tie.Need-part-requires
 part-requires c κs =
-    let n = any-rows _ (rows-known (c .before .before .before .before)) in
-    ((n .least, n .most), (prepared-known (c .before .before), transcript-known c))
+    let n = any-rows _ (rows-known (c .before .before .before .before .before)) in
+    ((c .before .before .blinded-by .ensures .1, n .least, n .most), (prepared-known (c .before .before .before), transcript-known c))
 
 returns-4 : tie.Need-returns-4
 returns-4 c =
     rw (
-      rows-known (c .before .before .before .before .before),
-      eq-eqb _ _ (prepared-known (c .before .before .before)),
+      ← c .before .before .before .blinded-by .ensures .0,
+      rows-known (c .before .before .before .before .before .before),
+      eq-eqb _ _ (prepared-known (c .before .before .before .before)),
       eq-eqb _ _ (transcript-known (c .before)),
     )
     (c .part .ensures)
@@ -80,6 +85,7 @@ polynomial-spec =
     prepared-length-requires
     slice-aggregate-result-2
     returns-2
+    blinded-by-requires
     transcript-length-requires
     slice-aggregate-result-3
     returns-3

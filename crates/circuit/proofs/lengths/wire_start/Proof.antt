@@ -4,6 +4,7 @@ use Prim.Native.Nat.{ℕ, _*_}
 use native.Mathlib.Omega.{arith}
 use Rattle.algebra.specs.Ends.{run-room}
 use borrow.Author.Needs.{needs}
+use Rattle.circuit.specs.Buffers.{wireLength}
 use Rattle.circuit.proofs.lengths.wire_start.Statement.{statement}
 use Rattle.circuit.proofs.lengths.wire_start.Tie as tie
 
@@ -13,8 +14,8 @@ wire-length-requires c κs = search needs
 mul-result : tie.Need-mul-result
 mul-result c =
     let a = c .before .args in
-    let e : c .wire-length .result ≡ a .n = c .wire-length .ensures in
-    rw e (omega (arith, run-room (a .column) 3 (a .n) (omega arith)))
+    let long : c .wire-length .result ≡ wireLength (a .e) (a .n) = c .wire-length .ensures in
+    rw long (omega (arith, run-room (a .column) 3 (wireLength (a .e) (a .n)) (omega arith)))
 
 returns : tie.Need-returns
 returns c = ap (λ (m : ℕ). c .before .args .column * m) (c .wire-length .ensures)

@@ -37,7 +37,7 @@ returns-2 : tie.Need-returns-2
 returns-2 c =
     let a = c .before .before .before .before .args in
     let k : a .number ≡ tNumber = c .before .match .keys2 in
-    let long : length (a .transcript .now) - tStart (a .n) ≡ quotientLength (a .n) = omega arith in
+    let long : length (a .transcript .now) - tStart (a .e) (a .n) ≡ quotientLength (a .e) (a .n) = omega arith in
     rw (k, ← long) (c .t-part .ensures .0)
 
 returns-3 : tie.Need-returns-3

@@ -29,7 +29,7 @@ returns c =
     let a = c .before .before .before .args in
     rw (c .before .t-start .ensures) (
       record { numbers = refl; place = refl },
-      take-all (length (a .transcript .now) - tStart (a .n)) (tPart (a .n) (a .transcript .now)) (omega (arith, length-drop (tStart (a .n)) (a .transcript .now))),
+      take-all (length (a .transcript .now) - tStart (a .e) (a .n)) (tPart (a .e) (a .n) (a .transcript .now)) (omega (arith, length-drop (tStart (a .e) (a .n)) (a .transcript .now))),
     )
 
 pub t-part-spec : {M : Type 1} → statement M

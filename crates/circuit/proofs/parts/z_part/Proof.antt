@@ -28,7 +28,7 @@ returns : tie.Need-returns
 returns c =
     let s = c .before .before .before .before in
     rw (c .before .before .z-start .ensures, c .before .t-start .ensures, add-sub-cancel-left)
-    (record { numbers = refl; place = refl }, length-z (s .args .n) (s .args .transcript .now) (s .pre .1))
+    (record { numbers = refl; place = refl }, length-z (s .args .e) (s .args .n) (s .args .transcript .now) (s .pre .2))
 
 pub z-part-spec : {M : Type 1} → statement M
 z-part-spec =
