@@ -92,11 +92,11 @@ module _ (q n : ℕ) (D : Domain (suc q) n) (C : Constraints) (x : ℕ → ℕ) 
 
   -- ZETAS
 
-  pub few-zetas : ((c : ℕ) → c < 3 → length (wire c) ≡ wireLength n) → length z ≡ zLength n → (alpha : ℕ) (t : List ℕ) (d : ℕ)
+  pub few-zetas : (e : ℕ) → ((c : ℕ) → c < 3 → length (wire c) ≡ wireLength e n) → length z ≡ zLength e n → (alpha : ℕ) (t : List ℕ) (d : ℕ)
       → length (fOf (suc q) n C x wire z beta gamma alpha) ≤ suc d → n + length t ≤ suc d
       → (SameP (suc q) (fOf (suc q) n C x wire z beta gamma alpha) (timesVanishing (suc q) n t) → ⊥)
-      → AtMost d (λ (zeta : ℕ). (zeta < suc q) × (pointVerdict (suc q) n (prepared (suc q) n C) x (transcript wire z t) beta gamma alpha zeta ≡ accept))
-  few-zetas lw lz alpha t d lf lt none =
+      → AtMost d (λ (zeta : ℕ). (zeta < suc q) × (pointVerdict e (suc q) n (prepared (suc q) n C) x (transcript wire z t) beta gamma alpha zeta ≡ accept))
+  few-zetas e lw lz alpha t d lf lt none =
       at-most-of (agree q (D .prime) d (F alpha) (timesVanishing p n t) lf (omega (arith, length-vanishing p n t)) none)
-      (λ zeta h. (accepted-agree q n D C x wire z t lw lz beta gamma alpha zeta (h .1), h .0))
+      (λ zeta h. (accepted-agree e q n D C x wire z t lw lz beta gamma alpha zeta (h .1), h .0))
       (omega arith)

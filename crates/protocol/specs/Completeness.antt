@@ -27,20 +27,21 @@ use Rattle.algebra.specs.Products.{prodN-ext, prodN-nonzero, prodN-perm, telesc
 use Rattle.field.specs.Fields.{point, tag}
 use Rattle.field.specs.Domain.{Domain}
 use Rattle.transform.specs.Transform.{interpolation}
-use Rattle.transform.specs.Interpolation.{interpolation-at, interpolation-elements, rows-positive}
+use Rattle.transform.specs.Interpolation.{rows-positive}
 use Rattle.circuit.specs.Circuit.{Constraints, position, permutation, Satisfies}
 use Rattle.circuit.specs.Buffers.{wireLength, zLength}
 use Rattle.circuit.specs.Permutation.{permutation-perm, permutation-label}
-use Rattle.protocol.specs.Protocol.{fOf, factor, wiredTag, rowN, rowD, startPart, preparedPoly, prepared, wiresOf, zOf, tOf, transcript, proved, pass, rowVerdict, accept, pointVerdict}
+use Rattle.protocol.specs.Protocol.{fOf, factor, wiredTag, rowN, rowD, startPart, preparedPoly, prepared, wireBlinder, zBlinder, blinded, wiresOf, zOf, tOf, transcript, proved, pass, rowVerdict, accept, pointVerdict}
 use Rattle.protocol.specs.Rows.{RowHolds, rows-pass}
 use Rattle.protocol.specs.Values.{eval-F, gate-at, step-at, start-at, start-off}
+use Rattle.protocol.specs.Blinding.{wires-elements, z-elements, interpolated-at}
 use Rattle.protocol.specs.Lengths.{length-F-rows}
 use Rattle.protocol.specs.Points.{agree-accepted}
 use Rattle.protocol.specs.Pairing.{product-N, product-D}
 use Rattle.protocol.specs.GrandProduct.{GrandProduct, D-nonzero, numberZ, Z-first, Z-lt, Z-step, rows-grand, z-laid, proved-laid}
 use Rattle.protocol.specs.Quotients.{quotient-holds}
 
-module _ (q n : ℕ) (D : Domain (suc q) n) (C : Constraints) (x v : ℕ → ℕ) (sat : Satisfies (suc q) n C x v) (beta gamma : ℕ)
+module _ (e q n : ℕ) (D : Domain (suc q) n) (C : Constraints) (x v : ℕ → ℕ) (b : List ℕ) (sat : Satisfies (suc q) n C x v) (beta gamma : ℕ)
     (nonzero : (k : ℕ) → k < 3 * n → Cong (suc q) (factor (wiredTag (suc q) n C) v beta gamma k) 0 → ⊥) where
   abbrev p : ℕ
   p = suc q
@@ -122,25 +123,25 @@ module _ (q n : ℕ) (D : Domain (suc q) n) (C : Constraints) (x v : ℕ → ℕ
   -- F AND T
 
   abbrev wires : ℕ → List ℕ
-  wires = wiresOf (suc q) n v
+  wires = wiresOf e (suc q) n v b
 
   abbrev pub z : List ℕ
-  z = interpolation (suc q) n (coef rows)
+  z = blinded (suc q) n (zBlinder e b) (interpolation (suc q) n (coef rows))
 
-  pub z-is : zOf (suc q) n C v beta gamma ≡ some z
-  z-is = z-laid p n C v beta gamma rows (grand .is)
+  pub z-is : zOf e (suc q) n C v b beta gamma ≡ some z
+  z-is = z-laid e p n C v b beta gamma rows (grand .is)
 
   wires-fit : (c i : ℕ) → c < 3 → i < n → Cong (suc q) (eval (wires c) (P i)) (v (position n c i))
-  wires-fit c i h l = interpolation-at q n D (λ r. v (position n c r)) i l
+  wires-fit c i h l = interpolated-at q n D (wireBlinder e b c) (λ r. v (position n c r)) i l
 
-  wires-long : (c : ℕ) → c < 3 → length (wires c) ≡ wireLength n
-  wires-long c h = interpolation-elements D _ .long
+  wires-long : (c : ℕ) → c < 3 → length (wires c) ≡ wireLength e n
+  wires-long c h = wires-elements D e b v c .long
 
-  z-long : length z ≡ zLength n
-  z-long = interpolation-elements D _ .long
+  z-long : length z ≡ zLength e n
+  z-long = z-elements D e b (coef rows) .long
 
   z-fit : (i : ℕ) → i < n → Cong (suc q) (eval z (P i)) (coef rows i)
-  z-fit = interpolation-at q n D (coef rows)
+  z-fit = interpolated-at q n D (zBlinder e b) (coef rows)
 
   module _ (alpha : ℕ) where
     abbrev F : List ℕ
@@ -160,15 +161,15 @@ module _ (q n : ℕ) (D : Domain (suc q) n) (C : Constraints) (x v : ℕ → ℕ
         start-zero (no e) = start-off q n D z i (omega arith) l
 
     abbrev pub t : List ℕ
-    t = tOf (suc q) n C x v z beta gamma alpha
+    t = tOf e (suc q) n C x v b z beta gamma alpha
 
-    pub laid : proved (suc q) n C x v beta gamma alpha ≡ some (transcript (wiresOf (suc q) n v) z t)
-    laid = proved-laid p n C v beta gamma rows (grand .is) x alpha
+    pub laid : proved e (suc q) n C x v b beta gamma alpha ≡ some (transcript (wiresOf e (suc q) n v b) z t)
+    laid = proved-laid e p n C v b beta gamma rows (grand .is) x alpha
 
-    pub t-holds : SameP (suc q) (fOf (suc q) n C x (wiresOf (suc q) n v) z beta gamma alpha) (timesVanishing (suc q) n t)
-    t-holds = quotient-holds q n D F F-zero (length-F-rows p n C x wires z (rows-positive q n D) wires-long z-long beta gamma alpha)
+    pub t-holds : SameP (suc q) (fOf (suc q) n C x (wiresOf e (suc q) n v b) z beta gamma alpha) (timesVanishing (suc q) n t)
+    t-holds = quotient-holds q n D F F-zero e (length-F-rows e p n C x wires z (rows-positive q n D) wires-long z-long beta gamma alpha)
 
-    pub accepts : (zeta : ℕ) → pointVerdict (suc q) n (prepared (suc q) n C) x (transcript (wiresOf (suc q) n v) z t) beta gamma alpha zeta ≡ accept
+    pub accepts : (zeta : ℕ) → pointVerdict e (suc q) n (prepared (suc q) n C) x (transcript (wiresOf e (suc q) n v b) z t) beta gamma alpha zeta ≡ accept
     accepts zeta =
-        agree-accepted q n D C x wires z t wires-long z-long beta gamma alpha zeta
+        agree-accepted e q n D C x wires z t wires-long z-long beta gamma alpha zeta
         (eval-cong F (timesVanishing p n t) zeta zeta t-holds (cong refl))

@@ -34,7 +34,7 @@ use Rattle.transform.specs.Transform.{interpolation}
 use Rattle.transform.specs.Parts.{laid}
 use Rattle.circuit.specs.Circuit.{Constraints, lentConstraints, lentBy, byRows, lentWitness, lentPublic, permutation, gate}
 use Rattle.circuit.specs.Reasons.{unboundRow}
-use Rattle.protocol.specs.Protocol.{nextZ, runningZ, rowN, rowD, rowZ, zRows, polyN, polyD, polyL, gatePart, stepPart, startPart, polyF, quotient, prepared, wiresOf, zOf, proved, RowVerdict, pass, fails, gateIdentity, startIdentity, stepIdentity, rowsFrom, rowAt, rowVerdict, PointVerdict, accept, reject, pointF, pointVerdict, brokenGate, brokenCopy, zeroFactor}
+use Rattle.protocol.specs.Protocol.{nextZ, runningZ, rowN, rowD, rowZ, zRows, polyN, polyD, polyL, gatePart, stepPart, startPart, polyF, quotient, prepared, blinded, wiresOf, zOf, proved, RowVerdict, pass, fails, gateIdentity, startIdentity, stepIdentity, rowsFrom, rowAt, rowVerdict, PointVerdict, accept, reject, pointF, pointVerdict, brokenGate, brokenCopy, zeroFactor}
 use Rattle.protocol.specs.GrandProduct.{z-laid}
 use Rattle.protocol.specs.Worked.{numbers, perhaps, rows, atPoint, Case, _&_}
 
@@ -64,13 +64,13 @@ abbrev gates : Sheet → List ℕ
 gates s = tab (gate (s .p) (s .n) (constraints s) (publics s) (witness s)) (s .n)
 
 abbrev transcriptOf : Sheet → Option (List ℕ)
-transcriptOf s = proved (s .p) (s .n) (constraints s) (publics s) (witness s) (s .beta) (s .gamma) (s .alpha)
+transcriptOf s = proved 0 (s .p) (s .n) (constraints s) (publics s) (witness s) [] (s .beta) (s .gamma) (s .alpha)
 
 abbrev rowCheck : Sheet → List ℕ → RowVerdict
 rowCheck s z = rowVerdict (s .p) (s .n) (constraints s) (publics s) (witness s) (λ i. getD z i 0) (s .beta) (s .gamma)
 
 abbrev pointCheck : Sheet → List ℕ → List ℕ → ℕ → PointVerdict
-pointCheck s pre lent zeta = pointVerdict (s .p) (s .n) pre (publics s) lent (s .beta) (s .gamma) (s .alpha) zeta
+pointCheck s pre lent zeta = pointVerdict 0 (s .p) (s .n) pre (publics s) lent (s .beta) (s .gamma) (s .alpha) zeta
 
 abbrev broken : Sheet → List ℕ
 broken s =
@@ -265,7 +265,7 @@ table =
     ∷ []
 
 right : All (λ r. r .is ≡ r .should) table
-unfolding unboundRow tab gathered powF first inverse quotientVanishing reduced generator root point multiplier tag interpolation lentBy byRows permutation gate rowN rowD runningZ polyN polyD polyL gatePart stepPart startPart polyF quotient laid prepared rowsFrom pointVerdict brokenGate brokenCopy zeroFactor
+unfolding unboundRow tab gathered powF first inverse quotientVanishing reduced blinded generator root point multiplier tag interpolation lentBy byRows permutation gate rowN rowD runningZ polyN polyD polyL gatePart stepPart startPart polyF quotient laid prepared rowsFrom pointVerdict brokenGate brokenCopy zeroFactor
 right = refl & refl & refl & refl & refl & refl & refl & refl & refl & refl & refl & refl & refl & refl & refl & refl & refl & refl & refl & refl & refl & refl & tt
 
 -- THE CASES OF THE LARGEST PRIME
@@ -309,9 +309,9 @@ largestTable =
     ∷ record { what = "z on the rows"; is = perhaps (zRows 2013265921 4 (constraints largest) (witness largest) (largest .beta) (largest .gamma)); should = perhaps (some zNumbers) }
     ∷ record { what = "row check"; is = rows (rowCheck largest (1 ∷ 176312996 ∷ 352415857 ∷ 1367991329 ∷ [])); should = rows pass }
     ∷ record { what = "prepared"; is = numbers (prepared 2013265921 4 (constraints largest)); should = numbers largestPrepared }
-    ∷ record { what = "wires"; is = numbers (wiresOf 2013265921 4 (witness largest) 0 ++ (wiresOf 2013265921 4 (witness largest) 1 ++ wiresOf 2013265921 4 (witness largest) 2)); should = numbers (50190781 ∷ 1101224727 ∷ 819351192 ∷ 1999408925 ∷ 232282727 ∷ 1186754120 ∷ 1228580325 ∷ 1186754120 ∷ 676424581 ∷ 1409873175 ∷ 742612266 ∷ 201324222 ∷ []) }
-    ∷ record { what = "z"; is = perhaps (zOf 2013265921 4 (constraints largest) (witness largest) (largest .beta) (largest .gamma)); should = perhaps (some (977496526 ∷ 237887515 ∷ 1211977324 ∷ 1599170478 ∷ [])) }
-    ∷ record { what = "t, of the prepared constraints, the wires and z"; is = numbers (quotient 2013265921 4 (pointF 2013265921 4 largestPrepared (publics largest) largestTranscript (largest .beta) (largest .gamma) (largest .alpha))); should = numbers (1739109928 ∷ 1878052840 ∷ 329032804 ∷ 1100539225 ∷ 1847986093 ∷ 1539179246 ∷ 1638934222 ∷ 121264089 ∷ 1961147648 ∷ []) }
+    ∷ record { what = "wires"; is = numbers (wiresOf 0 2013265921 4 (witness largest) [] 0 ++ (wiresOf 0 2013265921 4 (witness largest) [] 1 ++ wiresOf 0 2013265921 4 (witness largest) [] 2)); should = numbers (50190781 ∷ 1101224727 ∷ 819351192 ∷ 1999408925 ∷ 232282727 ∷ 1186754120 ∷ 1228580325 ∷ 1186754120 ∷ 676424581 ∷ 1409873175 ∷ 742612266 ∷ 201324222 ∷ []) }
+    ∷ record { what = "z"; is = perhaps (zOf 0 2013265921 4 (constraints largest) (witness largest) [] (largest .beta) (largest .gamma)); should = perhaps (some (977496526 ∷ 237887515 ∷ 1211977324 ∷ 1599170478 ∷ [])) }
+    ∷ record { what = "t, of the prepared constraints, the wires and z"; is = numbers (quotient 0 2013265921 4 (pointF 0 2013265921 4 largestPrepared (publics largest) largestTranscript (largest .beta) (largest .gamma) (largest .alpha))); should = numbers (1739109928 ∷ 1878052840 ∷ 329032804 ∷ 1100539225 ∷ 1847986093 ∷ 1539179246 ∷ 1638934222 ∷ 121264089 ∷ 1961147648 ∷ []) }
     ∷ record { what = "point check, zeta 2"; is = atPoint (pointCheck largest largestPrepared largestTranscript 2); should = atPoint accept }
     ∷ record { what = "refused by 10: at position 3"; is = numbers (broken largestPosition); should = numbers (1 ∷ 2 ∷ 3 ∷ 2 ∷ []) }
     ∷ record { what = "refused by 10: row check, the last step"; is = rows (rowCheck largestPosition (1 ∷ 1607777443 ∷ [])); should = rows (fails stepIdentity 1) }
@@ -359,7 +359,7 @@ unfolding tab powF generator point interpolation
 z-largest = rw (inverse-4, interpolation, root-4)
 
 largest-right : All (λ r. r .is ≡ r .should) largestTable
-unfolding unboundRow tab gathered powF first quotientVanishing reduced generator point multiplier tag interpolation lentBy byRows permutation gate rowN rowD runningZ polyN polyD polyL gatePart stepPart startPart polyF quotient laid prepared rowsFrom pointVerdict brokenGate brokenCopy zeroFactor
+unfolding unboundRow tab gathered powF first quotientVanishing reduced blinded generator point multiplier tag interpolation lentBy byRows permutation gate rowN rowD runningZ polyN polyD polyL gatePart stepPart startPart polyF quotient laid prepared rowsFrom pointVerdict brokenGate brokenCopy zeroFactor
 largest-right =
     (rw root-4)
     & refl
@@ -371,7 +371,7 @@ largest-right =
     & (rw (root-4, rowAt, root-4, rowAt, root-4, rowAt, root-4, rowAt))
     & (rw (inverse-4, interpolation, root-4))
     & (rw (inverse-4, interpolation, root-4))
-    & ap perhaps (z-laid 2013265921 4 (constraints largest) (witness largest) (largest .beta) (largest .gamma) zNumbers rows-largest ∙ ap {B = Option (List ℕ)} some z-largest)
+    & ap perhaps (z-laid 0 2013265921 4 (constraints largest) (witness largest) [] (largest .beta) (largest .gamma) zNumbers rows-largest ∙ ap {B = Option (List ℕ)} (λ z. some (blinded 2013265921 4 [] z)) z-largest)
     & (rw (inverse-4, interpolation, root-4, polyL))
     & (rw (inverse-4, interpolation, root-4, polyL, pointVerdict))
     & (rw root-2)

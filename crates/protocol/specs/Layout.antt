@@ -23,7 +23,8 @@ use Rattle.transform.specs.Interpolation.{interpolation-elements}
 use Rattle.transform.specs.Parts.{laid}
 use Rattle.circuit.specs.Circuit.{Constraints}
 use Rattle.circuit.specs.Buffers.{preparedCount, preparedLength, wireLength, zLength, quotientLength, transcriptLength, zStart, preparedPart, wirePart, zPart, tPart}
-use Rattle.protocol.specs.Protocol.{fOf, polyN, polyD, gatePart, stepPart, polyF, quotient, preparedPoly, prepared, zRows, wiresOf, tOf, transcript, proved, pointF}
+use Rattle.protocol.specs.Blinding.{wires-elements, z-elements}
+use Rattle.protocol.specs.Protocol.{zBlinder, blinded, fOf, polyN, polyD, gatePart, stepPart, polyF, quotient, preparedPoly, prepared, zRows, wiresOf, tOf, transcript, proved, pointF}
 
 -- LISTS END TO END
 
@@ -86,36 +87,37 @@ module _ {p n : ℕ} (D : Domain p n) (C : Constraints) where
 
 -- THE TRANSCRIPT
 
-module _ (n : ℕ) (wire : ℕ → List ℕ) (z t : List ℕ) (lw : (c : ℕ) → c < 3 → length (wire c) ≡ wireLength n) where
-  pub wire-part : (c : ℕ) → c < 3 → wirePart n c (transcript wire z t) ≡ wire c
-  wire-part c l = before-part (wireLength n) wire 3 (z ++ t) lw c l
+module _ (e n : ℕ) (wire : ℕ → List ℕ) (z t : List ℕ) (lw : (c : ℕ) → c < 3 → length (wire c) ≡ wireLength e n) where
+  pub wire-part : (c : ℕ) → c < 3 → wirePart e n c (transcript wire z t) ≡ wire c
+  wire-part c l = before-part (wireLength e n) wire 3 (z ++ t) lw c l
 
-  pub z-part : length z ≡ zLength n → zPart n (transcript wire z t) ≡ z
-  z-part h = ap (take (zLength n)) (before-rest (wireLength n) wire 3 (z ++ t) lw) ∙ take-at z t (zLength n) h
+  pub z-part : length z ≡ zLength e n → zPart e n (transcript wire z t) ≡ z
+  z-part h = ap (take (zLength e n)) (before-rest (wireLength e n) wire 3 (z ++ t) lw) ∙ take-at z t (zLength e n) h
 
-  pub t-part : length z ≡ zLength n → tPart n (transcript wire z t) ≡ t
+  pub t-part : length z ≡ zLength e n → tPart e n (transcript wire z t) ≡ t
   t-part h =
-      sym (drop-drop (zLength n) (zStart n) (transcript wire z t))
-      ∙ ap (drop (zLength n)) (before-rest (wireLength n) wire 3 (z ++ t) lw) ∙ drop-at z t (zLength n) h
+      sym (drop-drop (zLength e n) (zStart e n) (transcript wire z t))
+      ∙ ap (drop (zLength e n)) (before-rest (wireLength e n) wire 3 (z ++ t) lw) ∙ drop-at z t (zLength e n) h
 
-pub proved-elements : {p n : ℕ} → Domain p n → (C : Constraints) (x v : ℕ → ℕ) (beta gamma alpha : ℕ) (T : List ℕ) → 1 ≤ n
-    → proved p n C x v beta gamma alpha ≡ some T → Elements p (transcriptLength n) T
+pub proved-elements : {p n : ℕ} → Domain p n → (e : ℕ) (C : Constraints) (x v : ℕ → ℕ) (b : List ℕ) (beta gamma alpha : ℕ) (T : List ℕ) → 1 ≤ n
+    → proved e p n C x v b beta gamma alpha ≡ some T → Elements p (transcriptLength e n) T
 unfolding quotient
-proved-elements {p} {n} D C x v beta gamma alpha T h = go (zRows p n C v beta gamma)
+proved-elements {p} {n} D e C x v b beta gamma alpha T h = go (zRows p n C v beta gamma)
   where
     with : List ℕ → List ℕ
-    with z = transcript (wiresOf p n v) z (tOf p n C x v z beta gamma alpha)
+    with z = transcript (wiresOf e p n v b) z (tOf e p n C x v b z beta gamma alpha)
 
-    whole : (z : List ℕ) → Elements p (zLength n) z → Elements p (transcriptLength n) (with z)
-    whole z e =
-        let count : zStart n + (zLength n + quotientLength n) ≡ transcriptLength n = omega arith in
+    whole : (z : List ℕ) → Elements p (zLength e n) z → Elements p (transcriptLength e n) (with z)
+    whole z u =
+        let count : zStart e n + (zLength e n + quotientLength e n) ≡ transcriptLength e n = omega arith in
         subst (λ (m : ℕ). Elements p m (with z)) count
-        (before-elements (wiresOf p n v) 3 (λ c. interpolation-elements D _)
-        (append-elements e (reduced-elements (quotientLength n) _ (omega (arith, D .prime .two)))))
+        (before-elements (wiresOf e p n v b) 3 (wires-elements D e b v)
+        (append-elements u (reduced-elements (quotientLength e n) _ (omega (arith, D .prime .two)))))
 
-    go : (o : Option (List ℕ)) → Option·map with (Option·map (λ rows. interpolation p n (coef rows)) o) ≡ some T → Elements p (transcriptLength n) T
-    go none e = absurd (Option·none-ne-some T e)
-    go (some rows) e = subst (Elements p (transcriptLength n)) (Option·some-injective _ T e) (whole _ (interpolation-elements D (coef rows)))
+    go : (o : Option (List ℕ)) → Option·map with (Option·map (λ rows. blinded p n (zBlinder e b) (interpolation p n (coef rows))) o) ≡ some T
+        → Elements p (transcriptLength e n) T
+    go none is = absurd (Option·none-ne-some T is)
+    go (some rows) is = subst (Elements p (transcriptLength e n)) (Option·some-injective _ T is) (whole _ (z-elements D e b (coef rows)))
 
 -- F AS IT IS LENT
 
@@ -127,10 +129,10 @@ unfolding polyF gatePart stepPart polyN polyD
 F-ext p n pre pre′ wire wire′ x z beta gamma alpha h k =
     rw (h 0 (omega arith), h 1 (omega arith), h 2 (omega arith), h 3 (omega arith), h 4 (omega arith), h 5 (omega arith), h 6 (omega arith), h 7 (omega arith), k 0 (omega arith), k 1 (omega arith), k 2 (omega arith))
 
-pub lent-F : {p n : ℕ} → Domain p n → (C : Constraints) (x : ℕ → ℕ) (wire : ℕ → List ℕ) (z t : List ℕ) → ((c : ℕ) → c < 3 → length (wire c) ≡ wireLength n) → length z ≡ zLength n
+pub lent-F : {p n : ℕ} → Domain p n → (e : ℕ) (C : Constraints) (x : ℕ → ℕ) (wire : ℕ → List ℕ) (z t : List ℕ) → ((c : ℕ) → c < 3 → length (wire c) ≡ wireLength e n) → length z ≡ zLength e n
     → (beta gamma alpha : ℕ)
-    → pointF p n (prepared p n C) x (transcript wire z t) beta gamma alpha
+    → pointF e p n (prepared p n C) x (transcript wire z t) beta gamma alpha
     ≡ fOf p n C x wire z beta gamma alpha
-lent-F {p} {n} D C x wire z t lw lz beta gamma alpha =
-    F-ext p n _ (preparedPoly p n C) _ wire (interpolation p n x) _ beta gamma alpha (prepared-part D C) (wire-part n wire z t lw)
-    ∙ ap (λ (y : List ℕ). fOf p n C x wire y beta gamma alpha) (z-part n wire z t lw lz)
+lent-F {p} {n} D e C x wire z t lw lz beta gamma alpha =
+    F-ext p n _ (preparedPoly p n C) _ wire (interpolation p n x) _ beta gamma alpha (prepared-part D C) (wire-part e n wire z t lw)
+    ∙ ap (λ (y : List ℕ). fOf p n C x wire y beta gamma alpha) (z-part e n wire z t lw lz)

@@ -106,11 +106,11 @@ length-F p (suc r) a b C x wire z two more lw lz beta gamma alpha =
     short-F p r a b (omega arith) (omega arith) (preparedPoly p (suc r) C) wire (λ s l. interpolation-short p (suc r) _) (λ c l. record { short = lw c l })
     z (record { short = lz }) (interpolation p (suc r) x) (interpolation-short p (suc r) x) beta gamma alpha .short
 
-pub length-F-rows : (p n : ℕ) (C : Constraints) (x : ℕ → ℕ) (wire : ℕ → List ℕ) (z : List ℕ) → 2 ≤ n
-    → ((c : ℕ) → c < 3 → length (wire c) ≡ wireLength n) → length z ≡ zLength n
-    → (beta gamma alpha : ℕ) → length (fOf p n C x wire z beta gamma alpha) ≤ fLength n
-length-F-rows p n C x wire z two lw lz beta gamma alpha =
+pub length-F-rows : (e p n : ℕ) (C : Constraints) (x : ℕ → ℕ) (wire : ℕ → List ℕ) (z : List ℕ) → 2 ≤ n
+    → ((c : ℕ) → c < 3 → length (wire c) ≡ wireLength e n) → length z ≡ zLength e n
+    → (beta gamma alpha : ℕ) → length (fOf p n C x wire z beta gamma alpha) ≤ fLength e n
+length-F-rows e p n C x wire z two lw lz beta gamma alpha =
     omega (
       arith,
-      length-F p n (wireLength n - 1) (zLength n - 1) C x wire z two (omega arith) (λ c h. omega (arith, lw c h)) (omega arith) beta gamma alpha,
+      length-F p n (wireLength e n - 1) (zLength e n - 1) C x wire z two (omega arith) (λ c h. omega (arith, lw c h)) (omega arith) beta gamma alpha,
     )

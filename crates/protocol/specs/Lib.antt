@@ -5,6 +5,7 @@ pub mod Further
 pub mod Domains
 pub mod Rows
 pub mod Values
+pub mod Blinding
 pub mod Lengths
 pub mod Layout
 pub mod Numbered

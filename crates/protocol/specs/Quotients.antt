@@ -41,12 +41,12 @@ module _ (q n : ℕ) (D : Domain (suc q) n) (f : List ℕ) (zero-at : (i : ℕ) 
       division-exact n m f pos fits q (D .prime) (tab (point p n) n) (omega (arith, length-tab (point p n) n)) (points-distinct q n D) (zeros q n D f zero-at) k
       ∙ sym (vanishing-same p n (reduced p m t) t (reduced-same p m t (omega (arith, length-quotient n m f pos fits))) k)
 
-  pub quotient-holds : length f ≤ fLength n → SameP (suc q) f (timesVanishing (suc q) n (quotient (suc q) n f))
+  pub quotient-holds : (e : ℕ) → length f ≤ fLength e n → SameP (suc q) f (timesVanishing (suc q) n (quotient e (suc q) n f))
   unfolding quotient
-  quotient-holds fits = division-reduced (quotientLength n) fits
+  quotient-holds e fits = division-reduced (quotientLength e n) fits
 
-pub quotient-sees : (p n : ℕ) (f F : List ℕ) → 0 < n → length F ≤ fLength n → f ≡ reduced p (fLength n) F → quotient p n f ≡ quotient p n F
+pub quotient-sees : (e p n : ℕ) (f F : List ℕ) → 0 < n → length F ≤ fLength e n → f ≡ reduced p (fLength e n) F → quotient e p n f ≡ quotient e p n F
 unfolding quotient
-quotient-sees p n f F pos fits e =
-    ap (λ (g : List ℕ). reduced p (quotientLength n) (quotientVanishing n (quotientLength n) g)) e
-    ∙ quotient-reduced p n (quotientLength n) F pos fits
+quotient-sees e p n f F pos fits is =
+    ap (λ (g : List ℕ). reduced p (quotientLength e n) (quotientVanishing n (quotientLength e n) g)) is
+    ∙ quotient-reduced p n (quotientLength e n) F pos fits

@@ -23,7 +23,7 @@ use Rattle.field.specs.Fields.{tag}
 use Rattle.transform.specs.Transform.{interpolation}
 use Rattle.transform.specs.Interpolation.{interpolation-ext}
 use Rattle.circuit.specs.Circuit.{Constraints, position, gate}
-use Rattle.protocol.specs.Protocol.{rowN, rowD, zRows, polyN, polyD, gatePart, stepPart, polyF, fOf, wiresOf, zOf, tOf, transcript, proved, RowVerdict, fails, gateIdentity, startIdentity, stepIdentity, rowAt, rowsFrom, rowVerdict, brokenGate, brokenCopy, zeroFactor, witnessReasons, tagged, lostGammas}
+use Rattle.protocol.specs.Protocol.{rowN, rowD, zRows, polyN, polyD, gatePart, stepPart, polyF, fOf, wireBlinder, zBlinder, blinded, wiresOf, zOf, tOf, transcript, proved, RowVerdict, fails, gateIdentity, startIdentity, stepIdentity, rowAt, rowsFrom, rowVerdict, brokenGate, brokenCopy, zeroFactor, witnessReasons, tagged, lostGammas}
 use Rattle.protocol.specs.GrandProduct.{running-ext}
 
 -- the verdict of a row by its three tests
@@ -46,7 +46,7 @@ module _ (p n : ℕ) (v v' : ℕ → ℕ) (same : (k : ℕ) → k < 3 * n → v 
   unfolding lostGammas tagged
   lost-ext beta = ap different (tab-ext _ _ (3 * n) (λ k h. ap (λ (a : ℕ). (a + beta * tag p n k) % p) (same k h)))
 
-  wire : (c : ℕ) → c < 3 → wiresOf p n v c ≡ wiresOf p n v' c
+  wire : (c : ℕ) → c < 3 → interpolation p n (λ i. v (position n c i)) ≡ interpolation p n (λ i. v' (position n c i))
   wire c g = interpolation-ext p n _ _ (λ i h. same (position n c i) (omega (arith, run-room c 3 n g)))
 
   over : (beta gamma i : ℕ) → i < n → rowN p n v beta gamma i ≡ rowN p n v' beta gamma i
@@ -85,17 +85,21 @@ module _ (p n : ℕ) (v v' : ℕ → ℕ) (same : (k : ℕ) → k < 3 * n → v 
       pub reasons-ext : (beta gamma : ℕ) → witnessReasons p n C x v beta gamma ≡ witnessReasons p n C x v' beta gamma
       reasons-ext beta gamma = rw (broken-gate, broken-copy, zero-factor beta gamma)
 
-      whole : (z : List ℕ) (beta gamma alpha : ℕ) → fOf p n C x (wiresOf p n v) z beta gamma alpha ≡ fOf p n C x (wiresOf p n v') z beta gamma alpha
-      unfolding polyF gatePart stepPart polyN polyD
-      whole z beta gamma alpha = rw (wire 0 (omega arith), wire 1 (omega arith), wire 2 (omega arith))
+      module _ (e : ℕ) (b : List ℕ) where
+        wires : (c : ℕ) → c < 3 → wiresOf e p n v b c ≡ wiresOf e p n v' b c
+        wires c h = ap (blinded p n (wireBlinder e b c)) (wire c h)
 
-      pub proved-ext : (beta gamma alpha : ℕ) → proved p n C x v beta gamma alpha ≡ proved p n C x v' beta gamma alpha
-      proved-ext beta gamma alpha =
-          mapped _ _ laid (zOf p n C v beta gamma)
-          ∙ ap (λ rows. Option·map (λ z. transcript (wiresOf p n v') z (tOf p n C x v' z beta gamma alpha)) (Option·map (λ r. interpolation p n (coef r)) rows)) (z-rows beta gamma)
-        where
-          laid : (z : List ℕ) → transcript (wiresOf p n v) z (tOf p n C x v z beta gamma alpha) ≡ transcript (wiresOf p n v') z (tOf p n C x v' z beta gamma alpha)
-          laid z = rw (wire 0 (omega arith), wire 1 (omega arith), wire 2 (omega arith), whole z beta gamma alpha)
+        whole : (z : List ℕ) (beta gamma alpha : ℕ) → fOf p n C x (wiresOf e p n v b) z beta gamma alpha ≡ fOf p n C x (wiresOf e p n v' b) z beta gamma alpha
+        unfolding polyF gatePart stepPart polyN polyD
+        whole z beta gamma alpha = rw (wires 0 (omega arith), wires 1 (omega arith), wires 2 (omega arith))
+
+        pub proved-ext : (beta gamma alpha : ℕ) → proved e p n C x v b beta gamma alpha ≡ proved e p n C x v' b beta gamma alpha
+        proved-ext beta gamma alpha =
+            mapped _ _ laid (zOf e p n C v b beta gamma)
+            ∙ ap (λ rows. Option·map (λ z. transcript (wiresOf e p n v' b) z (tOf e p n C x v' b z beta gamma alpha)) (Option·map (λ r. blinded p n (zBlinder e b) (interpolation p n (coef r))) rows)) (z-rows beta gamma)
+          where
+            laid : (z : List ℕ) → transcript (wiresOf e p n v b) z (tOf e p n C x v b z beta gamma alpha) ≡ transcript (wiresOf e p n v' b) z (tOf e p n C x v' b z beta gamma alpha)
+            laid z = rw (wires 0 (omega arith), wires 1 (omega arith), wires 2 (omega arith), whole z beta gamma alpha)
 
       module _ (beta gamma : ℕ) (z z' : ℕ → ℕ) (same-z : (i : ℕ) → i < n → z i ≡ z' i) where
         row : (i : ℕ) → i < n → (later later' : RowVerdict) → later ≡ later' → rowAt p n C x v z beta gamma i later ≡ rowAt p n C x v' z' beta gamma i later'
