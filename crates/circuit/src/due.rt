@@ -68,7 +68,16 @@ pub fn behind(e: usize, blinders: usize, scratch: usize) -> usize
     blinders
 }
 
-// `prove`, and `prove_blinded` where e is 1: selectors, labels, witness, public inputs, transcript, challenges, the blinders of the latter, scratch. They are the first 7 + e.
+// The lengths of a prover's table that count: all 8 for `prove_blinded`, and for `prove` one less.
+pub fn counted(e: usize, table: &[usize]) -> &[usize]
+    requires { ⌜ (e ≤ 1) × (length (now table) ≡ 8) ⌝ }
+    ensures { λ r. ⌜ now r ≡ take (7 + e) (now (table .entry)) ⌝ }
+{
+    let end = 7 + e;
+    &table[0..end]
+}
+
+// `prove`, and `prove_blinded` where e is 1: selectors, labels, witness, public inputs, transcript, challenges, the blinders of the latter, scratch.
 pub fn prove(e: usize, n: usize, l: usize) -> [usize; 8]
     requires { ⌜ (e ≤ 1) × (n < 4294967296) ⌝ }
     ensures { λ r. ⌜ (take (7 + e) r ≡ proveDue e n l) × (length r ≡ 8) ⌝ }

@@ -65,7 +65,7 @@ pub fn decide_numbers(
 }
 
 // The reasons of a call that is lent a circuit and what it is filled with: those of p, n, l and the lengths, `long` being the lengths of the call's buffers, and `due` those due; then those of
-// the numbers in the buffers, end to end. A call that is lent no row values of z has an empty part there.
+// the numbers in the buffers, end to end. The last two are the row values of z and the challenges, or, of a call that is lent no such values, the challenges and the blinders.
 pub fn decide_filled(
     p: u32,
     n: u32,
@@ -76,20 +76,20 @@ pub fn decide_filled(
     labels: &[u32],
     witness: &[u32],
     publics: &[u32],
-    z: &[u32],
-    challenges: &[u32],
+    more: &[u32],
+    last: &[u32],
 ) -> Answer
     requires { ⌜ (length (now long) ≡ length (now due)) × (length (now due) ≤ 16) ⌝ }
-    requires { ⌜ (Lent p n l (now long) (now due) → Countable n (now selectors) (now labels) (now witness) (now publics) (now z) (now challenges)) ⌝ }
-    ensures { λ r. ⌜ r ≡ answerOf (lentReasons p n l (now (long .entry)) (now (due .entry)) ++ numberReasons p n l (now (selectors .entry) ++ (now (witness .entry) ++ (now (publics .entry) ++ (now (z .entry) ++ now (challenges .entry))))) (now (selectors .entry)) (now (labels .entry))) ⌝ }
+    requires { ⌜ (Lent p n l (now long) (now due) → Countable n (now selectors) (now labels) (now witness) (now publics) (now more) (now last)) ⌝ }
+    ensures { λ r. ⌜ r ≡ answerOf (lentReasons p n l (now (long .entry)) (now (due .entry)) ++ numberReasons p n l (now (selectors .entry) ++ (now (witness .entry) ++ (now (publics .entry) ++ (now (more .entry) ++ now (last .entry))))) (now (selectors .entry)) (now (labels .entry))) ⌝ }
 {
     let answer = field::decide_lent(p, n, l, long, due);
     let number = answer.number;
     if number != 0 {
         return answer;
     }
-    let at = field::first_of_four(p, selectors, witness, publics, z);
-    let four = selectors.len() + witness.len() + publics.len() + z.len();
-    let place = field::then_above(p, at, four, challenges);
-    decide_numbers(n, l, place, four + challenges.len(), selectors, labels)
+    let at = field::first_of_four(p, selectors, witness, publics, more);
+    let four = selectors.len() + witness.len() + publics.len() + more.len();
+    let place = field::then_above(p, at, four, last);
+    decide_numbers(n, l, place, four + last.len(), selectors, labels)
 }

@@ -13,11 +13,11 @@ use Rattle.circuit.specs.RightlyLent.{labels-of}
 use Rattle.witnesses.specs.Accepted.{buffers-of}
 use Rattle.witnesses.specs.Buffers.{Checked}
 
-pub checked : (p n l : ℕ) (selectors labels witness publics transcript challenges scratch : List ℕ)
-    → answerOf (proveBufferReasons p n l selectors labels witness publics transcript challenges scratch) .number ≡ 0
+pub checked : (e p n l : ℕ) (selectors labels witness publics transcript challenges blinders scratch : List ℕ)
+    → answerOf (proveBufferReasons e p n l selectors labels witness publics transcript challenges blinders scratch) .number ≡ 0
     → Checked p n selectors labels witness challenges
-checked p n l selectors labels witness publics transcript challenges scratch e =
-    let known = buffers-of p n l selectors labels witness publics transcript challenges scratch e in
+checked e p n l selectors labels witness publics transcript challenges blinders scratch is =
+    let known = buffers-of e p n l selectors labels witness publics transcript challenges blinders scratch is in
     let lent = known .0 in
     let long : length labels ≡ 3 * n = cc (lent .lengths) in
     record {

@@ -3,6 +3,8 @@
 //
 // The call is `decide`. Nothing is written to a lent buffer.
 ghost use mathlib.Core.Path.{_≡_};
+ghost use mathlib.Core.List.{[]};
+ghost use Prim.Native.Nat.{_≤_};
 ghost use lib.ListN.{getD};
 ghost use Rattle.field.specs.Reasons.{answerOf};
 ghost use Rattle.circuit.specs.Circuit.{lentConstraints, lentPublic, lentWitness};
@@ -43,8 +45,9 @@ fn of_witness(
     field::decide_at(11, at, m)
 }
 
-// Why a call of the prover is turned down, if it is. The transcript and the scratch are looked at for their length only.
+// Why a call of the prover is turned down, if it is: of `prove_blinded` where e is 1, and else of `prove`, which is lent no blinders. The transcript and the scratch are looked at for their length only.
 pub fn decide(
+    e: usize,
     p: u32,
     n: u32,
     l: u32,
@@ -54,9 +57,11 @@ pub fn decide(
     publics: &[u32],
     transcript: &[u32],
     challenges: &[u32],
+    blinders: &[u32],
     scratch: &[u32],
 ) -> Answer
-    ensures { λ r. ⌜ r ≡ answerOf (proveReasons p n l (now (selectors .entry)) (now (labels .entry)) (now (witness .entry)) (now (publics .entry)) (now (transcript .entry)) (now (challenges .entry)) (now (scratch .entry))) ⌝ }
+    requires { ⌜ (e ≤ 1) × (e ≡ 0 → now blinders ≡ []) ⌝ }
+    ensures { λ r. ⌜ r ≡ answerOf (proveReasons e p n l (now (selectors .entry)) (now (labels .entry)) (now (witness .entry)) (now (publics .entry)) (now (transcript .entry)) (now (challenges .entry)) (now (blinders .entry)) (now (scratch .entry))) ⌝ }
 {
     let prime = field::decide_prime(p);
     let number = prime.number;
@@ -64,6 +69,7 @@ pub fn decide(
         return prime;
     }
     let answer = reasons::of_buffers(
+        e,
         p,
         n,
         l,
@@ -73,6 +79,7 @@ pub fn decide(
         publics,
         transcript,
         challenges,
+        blinders,
         scratch,
     );
     let number = answer.number;

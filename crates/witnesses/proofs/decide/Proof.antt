@@ -18,7 +18,7 @@ use Rattle.witnesses.proofs.decide.Tie as tie
 
 -- the two parts
 abbrev first : tie.Start → List Reason
-first s = proveBufferReasons (s .args .p) (s .args .n) (s .args .l) (s .args .selectors .now) (s .args .labels .now) (s .args .witness .now) (s .args .publics .now) (s .args .transcript .now) (s .args .challenges .now) (s .args .scratch .now)
+first s = proveBufferReasons (s .args .e) (s .args .p) (s .args .n) (s .args .l) (s .args .selectors .now) (s .args .labels .now) (s .args .witness .now) (s .args .publics .now) (s .args .transcript .now) (s .args .challenges .now) (s .args .blinders .now) (s .args .scratch .now)
 
 abbrev second : tie.Start → List Reason
 second s =
@@ -26,11 +26,11 @@ second s =
 
 -- no reason of the first has number 0
 first-right : (s : tie.Start) → All (λ r. r .number ≢ 0) (first s)
-first-right s = buffer-numbers (s .args .p) (s .args .n) (s .args .l) (s .args .selectors .now) (s .args .labels .now) (s .args .witness .now) (s .args .publics .now) (s .args .transcript .now) (s .args .challenges .now) (s .args .scratch .now)
+first-right s = buffer-numbers (s .args .e) (s .args .p) (s .args .n) (s .args .l) (s .args .selectors .now) (s .args .labels .now) (s .args .witness .now) (s .args .publics .now) (s .args .transcript .now) (s .args .challenges .now) (s .args .blinders .now) (s .args .scratch .now)
 
 -- where the call begins
 abbrev start : tie.After-decide-prime → tie.Start
-start c = c .before .before .before .before .before .before .before .before
+start c = c .before .before .before .before .before .before .before .before .before
 
 -- where the prime may be proved with, the answer is that of the two parts
 current : (c : tie.Else1) {b : Answer} → b ≡ answerOf (first (start (c .before)) ++ second (start (c .before)))
@@ -58,7 +58,7 @@ returns-2 c =
 of-witness-requires : tie.Need-of-witness-requires
 of-witness-requires c κs =
     let s = start (c .before .before .before) in
-    checked (s .args .p) (s .args .n) (s .args .l) (s .args .selectors .now) (s .args .labels .now) (s .args .witness .now) (s .args .publics .now) (s .args .transcript .now) (s .args .challenges .now) (s .args .scratch .now)
+    checked (s .args .e) (s .args .p) (s .args .n) (s .args .l) (s .args .selectors .now) (s .args .labels .now) (s .args .witness .now) (s .args .publics .now) (s .args .transcript .now) (s .args .challenges .now) (s .args .blinders .now) (s .args .scratch .now)
     (sym (ap (λ a. a .number) (c .before .of-buffers .ensures)) ∙ c .if2 .left)
 
 returns-3 : tie.Need-returns-3

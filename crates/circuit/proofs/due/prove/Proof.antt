@@ -38,10 +38,12 @@ due-of (suc (suc e)) n l a b c d next scratch h i j k m w u = absurd (omega arit
 
 returns : tie.Need-returns
 returns c =
-    let w = c .before .before .before .before .before in
-    (due-of (w .before .args .e) (w .before .args .n) (w .before .args .l) _ _ _ _ _ _ (w .before .pre .0) (c .before .before .before .selectors-length .ensures)
-    (c .before .before .labels-length .ensures) (c .before .witness-length .ensures) (c .transcript-length .ensures) (w .work-length .ensures)
-    (c .before .before .before .before .behind .ensures), refl)
+    let w = c .before .before .before .before .before in (
+      due-of (w .before .args .e) (w .before .args .n) (w .before .args .l) _ _ _ _ _ _ (w .before .pre .0) (c .before .before .before .selectors-length .ensures)
+          (c .before .before .labels-length .ensures) (c .before .witness-length .ensures) (c .transcript-length .ensures) (w .work-length .ensures)
+          (c .before .before .before .before .behind .ensures),
+      refl,
+    )
 
 pub prove-spec : {M : Type 1} → statement M
 prove-spec =

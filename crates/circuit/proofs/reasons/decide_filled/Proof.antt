@@ -15,18 +15,18 @@ use Rattle.circuit.proofs.reasons.decide_filled.Tie as tie
 
 -- the numbers of the first four buffers end to end, and of all five; the reasons behind those of the lengths
 abbrev four : tie.Start → List ℕ
-four s = s .args .selectors .now ++ (s .args .witness .now ++ (s .args .publics .now ++ s .args .z .now))
+four s = s .args .selectors .now ++ (s .args .witness .now ++ (s .args .publics .now ++ s .args .more .now))
 
 abbrev five : tie.Start → List ℕ
-five s = s .args .selectors .now ++ (s .args .witness .now ++ (s .args .publics .now ++ (s .args .z .now ++ s .args .challenges .now)))
+five s = s .args .selectors .now ++ (s .args .witness .now ++ (s .args .publics .now ++ (s .args .more .now ++ s .args .last .now)))
 
 abbrev rest : tie.Start → List Reason
 rest s = numberReasons (s .args .p) (s .args .n) (s .args .l) (five s) (s .args .selectors .now) (s .args .labels .now)
 
-long-four : (s : tie.Start) → length (s .args .selectors .now) + length (s .args .witness .now) + length (s .args .publics .now) + length (s .args .z .now) ≡ length (four s)
+long-four : (s : tie.Start) → length (s .args .selectors .now) + length (s .args .witness .now) + length (s .args .publics .now) + length (s .args .more .now) ≡ length (four s)
 long-four s = simp length-append (omega arith)
 
-long-five : (s : tie.Start) → length (four s) + length (s .args .challenges .now) ≡ length (five s)
+long-five : (s : tie.Start) → length (four s) + length (s .args .last .now) ≡ length (five s)
 long-five s = simp length-append (omega arith)
 
 abbrev start : tie.After-decide-lent → tie.Start
@@ -78,11 +78,11 @@ returns-2 c =
     let d = c .before .before .before .before in
     let s = start d in
     let place : c .before .then-above .result ≡ firstAbove (s .args .p) (five s) =
-    further (s .args .p) (four s) (s .args .challenges .now) _ _ _ (c .before .before .first-of-four .ensures) (long-four s) (c .before .then-above .ensures)
+    further (s .args .p) (four s) (s .args .last .now) _ _ _ (c .before .before .first-of-four .ensures) (long-four s) (c .before .then-above .ensures)
     ∙ ap (firstAbove (s .args .p)) (simp append-assoc) in
     lent-later (s .args .p) (s .args .n) (s .args .l) (s .args .long .now) (s .args .due .now) (rest s) refl (d .decide-lent .ensures) (c .before .before .before .if1 .left)
     (c .decide-numbers .ensures
-    ∙ ap₂ (λ (at count : ℕ). answerOf (reasonAt 7 at count ∷ circuitReasons (s .args .n) (s .args .l) (s .args .selectors .now) (s .args .labels .now))) place (ap (λ (k : ℕ). k + length (s .args .challenges .now)) (long-four s) ∙ long-five s))
+    ∙ ap₂ (λ (at count : ℕ). answerOf (reasonAt 7 at count ∷ circuitReasons (s .args .n) (s .args .l) (s .args .selectors .now) (s .args .labels .now))) place (ap (λ (k : ℕ). k + length (s .args .last .now)) (long-four s) ∙ long-five s))
 
 pub decide-filled-spec : {M : Type 1} → statement M
 decide-filled-spec =
