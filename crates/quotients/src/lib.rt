@@ -1,4 +1,4 @@
-// F and its quotient by X^n - 1, on slices.
+// F and its quotient by X^n - 1, on slices. The number e is 1 where the wires and z are blinded, else 0.
 //
 // The functions for the layers above, which have checked their numbers, are `fill` and `divide`.
 ghost use mathlib.Core.Path.{_≡_};
@@ -16,6 +16,7 @@ pub use division::divide;
 
 // F of a prepared circuit, public inputs, wires and z, whatever `out` held. `powers` are the domain points; `laid` are a, b, c and z.
 pub fn fill(
+    e: usize,
     p: u32,
     n: u32,
     powers: &[u32],
@@ -27,11 +28,11 @@ pub fn fill(
     alpha: u32,
     out: &mut [u32],
 )
-    requires { ⌜ Fillable p n (now powers) (now publics) (now prepared) (now laid) (now out) ⌝ }
-    ensures { λ _. ⌜ now (out .exit) ≡ reduced p (fLength n) (pointF p n (now (prepared .entry)) (lentPublic (now (publics .entry))) (now (laid .entry)) beta gamma alpha) ⌝ }
+    requires { ⌜ Fillable e p n (now powers) (now publics) (now prepared) (now laid) (now out) ⌝ }
+    ensures { λ _. ⌜ now (out .exit) ≡ reduced p (fLength e n) (pointF e p n (now (prepared .entry)) (lentPublic (now (publics .entry))) (now (laid .entry)) beta gamma alpha) ⌝ }
 {
     transform::slices::clear(out);
-    gates::add_public_gate(p, n, publics, prepared, laid, out);
-    steps::add_step(p, n, powers, prepared, laid, beta, gamma, alpha, out);
-    start::add_start(p, n, laid, alpha, out);
+    gates::add_public_gate(e, p, n, publics, prepared, laid, out);
+    steps::add_step(e, p, n, powers, prepared, laid, beta, gamma, alpha, out);
+    start::add_start(e, p, n, laid, alpha, out);
 }

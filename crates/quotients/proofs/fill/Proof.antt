@@ -20,6 +20,7 @@ add-public-gate-requires c κs =
     let A = s .points .admissible in (
       s .publics-lent,
       record {
+        blinded = s .blinded;
         modulus = omega (arith, field-prime _ (A .one-of-three) .two);
         least = rows-power _ _ (A .rows) .least;
         few = rows-power _ _ (A .rows) .small;
@@ -42,7 +43,7 @@ returns : tie.Need-returns
 unfolding polyF
 returns c =
     let s = c .before .before .before .before .before .before .before .before .before .before .before .before .before .before .before .before .before .before .before .before .before in
-    from-zeros (fLength (s .args .n))
+    from-zeros (fLength (s .args .e) (s .args .n))
     (c .before .before .before .before .before .before .before .before .before .before .before .before .before .before .clear .ensures ∙ ap (λ (m : ℕ). replicate m 0) (s .pre .out-length))
     (then (then (c .before .before .before .before .before .before .before .before .before .before .add-public-gate .ensures) record { sum = c .before .before .before .before .before .before .add-step .ensures }) (c .before .before .add-start .ensures))
 
