@@ -15,6 +15,8 @@
 -- exactly-image             along a one-to-one map onto the things counted
 -- exactly-or                things of two kinds, of which none is of both: the counts add up
 -- exactly-pairs             pairs, the first below N: the sum over the first of the counts of the second
+-- exactly-none, exactly-one, exactly-below   none at all; one only; the numbers below n
+-- exactly-each              pairs, with equally many of the second for each of the first: the product of the counts. Of independent things too
 -- DIFFERENT NUMBERS
 -- exactly-different         a list has exactly `different` numbers
 -- different-most            at most as many as it is long
@@ -26,7 +28,8 @@ use mathlib.Core.Path.{_≡_, refl, sym, ap, _∙_, subst}
 use mathlib.Core.Logic.{_≢_, _⊎_, inl, inr, ⊎-elim}
 use mathlib.Core.Bool.{Bool, true, false, cond}
 use mathlib.Core.List.{List, [], _∷_, _++_, map}
-use Prim.Native.Nat.{ℕ, zero, suc, _+_, _≤_, _<_}
+use Prim.Native.Nat.{ℕ, zero, suc, _+_, _*_, _≤_, _<_}
+use native.Mathlib.Nat.{add-comm, zero-mul, suc-mul}
 use native.Mathlib.Decide.{ℕ-discrete}
 use native.Mathlib.Omega.{arith}
 use lib.Dec.{eqb}
@@ -183,6 +186,46 @@ exactly-pairs {P} (suc N) K low each =
     side : (s : ℕ × ℕ) → P s → Dec (s .0 ≡ N) → (P s × (s .0 ≡ N)) ⊎ (P s × (s .0 < N))
     side s h (yes e) = inl (h, e)
     side s h (no e) = inr (h, omega (arith, low s h))
+
+module _ {A : Type 0} {P : A → Type 0} where
+  pub exactly-none : ((a : A) → P a → ⊥) → Exactly 0 P
+  exactly-none h = record { things = []; once = tt; only = tt; all = λ a k. h a k; count = refl }
+
+  pub exactly-one : (a : A) → P a → ((b : A) → P b → b ≡ a) → Exactly 1 P
+  exactly-one a h same = record { things = a ∷ []; once = (tt, tt); only = (h, tt); all = λ b k. inl (same b k); count = refl }
+
+pub exactly-below : (n : ℕ) → Exactly n (λ k. k < n)
+exactly-below n =
+    record {
+      things = tab (λ k. k) n;
+      once = nodup-tab (λ k. k) n (λ j k h l e. e);
+      only = all-tab (λ k. k < n) (λ k. k) n (λ k h. h);
+      all = λ k h. in-tab (λ j. j) n k h;
+      count = length-tab (λ k. k) n;
+    }
+
+module _ {A B : Type 0} {L : ℕ} {Q : A → B → Type 0} where
+  -- the first in a list without repetition
+  each-of : (l : List A) → Nodup l → ((a : A) → In a l → Exactly L (Q a)) → Exactly (length l * L) (λ (s : A × B). In (s .0) l × Q (s .0) (s .1))
+  each-of [] n f = rw (zero-mul L) (exactly-none (λ s h. h .0))
+  each-of (x ∷ xs) n f =
+      rw (suc-mul (length xs) L, add-comm (length xs * L) L)
+      (exactly-or {P = λ s. (s .0 ≡ x) × Q (s .0) (s .1)} {Q = λ s. In (s .0) xs × Q (s .0) (s .1)}
+      (exactly-image {P = Q x} (λ b. (x, b)) (λ b h. (refl, h)) (λ b c h k e. ap (λ (s : A × B). s .1) e) back (f x (inl refl)))
+      (each-of xs (n .1) (λ a i. f a (inr i)))
+      (λ s h k. all-in (λ y. x ≢ y) xs (n .0) (s .0) (k .0) (sym (h .0)))
+      (λ s. ⊎-elim (λ h. (inl (h .0), h .1)) (λ h. (inr (h .0), h .1)))
+      (λ s h. ⊎-elim (λ e. inl (e, h .1)) (λ i. inr (i, h .1)) (h .0)))
+    where
+      back : (s : A × B) → (s .0 ≡ x) × Q (s .0) (s .1) → (b : B) × Q x b × (_≡_ {A = A × B} (x, b) s)
+      back s h = (s .1, subst (λ (a : A). Q a (s .1)) (h .0) (h .1), λ i. (sym (h .0) i, s .1))
+
+  pub exactly-each : {K : ℕ} {P : A → Type 0} → Exactly K P → ((a : A) → P a → Exactly L (Q a)) → Exactly (K * L) (λ (s : A × B). P (s .0) × Q (s .0) (s .1))
+  exactly-each {K} {P} e f =
+      rw (← (e .count))
+      (exactly-of (each-of (e .things) (e .once) (λ a i. f a (all-in P (e .things) (e .only) a i)))
+      (λ s h. (all-in P (e .things) (e .only) (s .0) (h .0), h .1))
+      (λ s h. (e .all (s .0) (h .0), h .1)))
 
 -- DIFFERENT NUMBERS
 

@@ -16,6 +16,7 @@ pub mod Same
 pub mod Convolution
 pub mod Counting
 pub mod Exact
+pub mod Fitting
 pub mod Products
 pub mod Roots
 pub mod Linear
