@@ -19,3 +19,4 @@ pub mod SameValues
 pub mod Quotients
 pub mod Completeness
 pub mod Demand3
+pub mod FiveValues
