@@ -1,25 +1,29 @@
--- What five values give away (document 02, request 9): nothing. The values at one point zeta of the three blinded wires and of the blinded z, and that of z at
--- w × zeta, are the same five elements for equally many choices of the nine blinders, whichever the witness.
+-- What five values give away (document 02, request 9): nothing. Whichever the witness, equally many choices of the nine blinders make any given five elements of
+-- the values of the three wires and of z at a point zeta and of z at w × zeta.
 --
 -- THE STATEMENT
--- GivesFive p n C v beta gamma zeta five b   with the nine blinders b, the five values of the witness v are the list `five`
--- EquallyMany K P Q                          exactly K things satisfy P, and exactly K satisfy Q
--- FiveValues p n C v v' beta gamma           for every zeta with zeta^n ≠ 1 and every five elements, equally many choices give them for the witnesses v and v'
+-- FiveAt p n wire z zeta five          the values of three wires and of z at zeta, and of z at w × zeta, are the list `five`
+-- GivesFive p n C v beta gamma zeta five b   b is nine elements, and the blinded wires and z of the witness v have these values
+-- LaysFive p n C x v beta gamma alpha zeta five b   the same of the transcript that the prover lays
+-- FiveValues p n Gives                 for every zeta with zeta^n ≠ 1 and every five elements, exactly p^4 choices give them; at zeta = 0 exactly p^5 where the last two
+--                                      agree, and none else
+-- EquallyMany P Q                      exactly as many lists satisfy P as satisfy Q
 -- THE THEOREM
--- five-values                                it is so for every admissible p and n, and every two witnesses whose factors of D are not zero
+-- five-values                          FiveValues holds of what the definitions give, for every admissible p and n, every constraints, and every witness and pair with no zero
+--                                      factor of any D(i) (reason 11 does not apply)
+-- five-laid                            and of what the prover lays, whatever alpha is
+-- five-of                              and of any property that says the same
+-- equally-many                         so two witnesses have equally many choices for any five elements
 --
--- THE PROOF. At zeta the polynomial X^n - 1 has a value Z that is not 0, and at w × zeta the same one. Each of the four polynomials has blinders of its own, and is r × Z more than
--- it was, r being the value of its blinder. So the nine are four polynomials r that fit given values, and how many do is known whatever the values are (algebra's Fitting).
--- blinders b, nine s     the four polynomials of nine numbers, and back
--- choices-exactly        so many choices of the nine as the product of the counts for the four
---
--- Neither witness need satisfy the circuit, and the constraints may be any: where the factors of D are not zero, there is a z. Public inputs play no part.
+-- At zeta the polynomial X^n - 1 has a value Z that is not 0, and at w × zeta the same. Each of the four polynomials f has blinders of its own: it becomes f + r × (X^n - 1), so
+-- its value is f(zeta) + r(zeta) × Z. The nine are thus four polynomials r that fit given values, and how many do does not depend on the values (algebra's Fitting).
+-- A witness need not satisfy the circuit for this, and the public inputs play no part.
 -- Assumes nothing.
 use mathlib.Core.Path.{_≡_, refl, sym, ap, _∙_, subst}
 use mathlib.Core.Logic.{_≢_}
 use mathlib.Core.List.{List, [], _∷_}
 use mathlib.Core.Option.{some}
-use Prim.Native.Nat.{ℕ, zero, suc, _+_, _*_, _-_, _%_, _^_, _≤_, _<_}
+use Prim.Native.Nat.{ℕ, zero, suc, _+_, _*_, _-_, _%_, _^_, _<_}
 use native.Mathlib.Nat.{mod-eq-of-lt, zero-lt-suc, pow-zero, pow-succ'}
 use native.Mathlib.Decide.{ℕ-discrete}
 use native.Mathlib.Omega.{arith}
@@ -28,23 +32,23 @@ use lib.ListN.{length}
 use lib.Pow.{pow-add}
 use Rattle.algebra.specs.Lists.{tab, Exactly}
 use Rattle.algebra.specs.Polynomial.{coef, eval, Elements}
-use Rattle.algebra.specs.Congruence.{Cong, cong, _⨾_, back, cong-add, cong-mul, cong-on, cong-mod, cong-lt, cong-same}
+use Rattle.algebra.specs.Congruence.{Cong, cong, _⨾_, back, cong-add, cong-mul, cong-mod, cong-lt, cong-same}
 use Rattle.algebra.specs.Powers.{mul-pow, pow-one}
 use Rattle.algebra.specs.Primes.{one-nonzero, cong-divide}
-use Rattle.algebra.specs.Exact.{exactly-image, exactly-each}
+use Rattle.algebra.specs.Exact.{exactly-of, exactly-image, exactly-each}
 use Rattle.algebra.specs.Tables.{tab-getD, all-getD}
 use Rattle.algebra.specs.PolynomialLaws.{eval-cong, tab-elements, append-elements}
-use Rattle.algebra.specs.Fitting.{Fits, OneValue, TwoValues, one-value, two-values, same-value, no-value}
+use Rattle.algebra.specs.Fitting.{OneValue, TwoValues, one-value, two-values, same-value, no-value}
 use Rattle.field.specs.Fields.{Admissible, root}
 use Rattle.field.specs.Domain.{Domain, domain}
 use Rattle.transform.specs.Transform.{interpolation}
 use Rattle.transform.specs.Interpolation.{rows-positive}
 use Rattle.circuit.specs.Circuit.{Constraints, position}
-use Rattle.circuit.specs.Buffers.{blinderCount, wirePart, zPart}
+use Rattle.circuit.specs.Buffers.{blinderCount, wireLength, wirePart, zPart}
 use Rattle.protocol.specs.Protocol.{wireBlinder, zBlinder, blinded, zRows, wiresOf, zOf, tOf, transcript, proved, zeroFactor}
 use Rattle.protocol.specs.Blinding.{interpolated-value, wires-elements, z-elements}
 use Rattle.protocol.specs.Layout.{wire-part, z-part}
-use Rattle.protocol.specs.GrandProduct.{GrandProduct, grand-product, laidZ, z-laid, proved-laid}
+use Rattle.protocol.specs.GrandProduct.{grand-product, laidZ, z-laid, proved-laid}
 
 -- THE STATEMENT
 
@@ -58,6 +62,12 @@ pub record GivesFive (p n : ℕ) (C : Constraints) (v : ℕ → ℕ) (beta gamma
   pub z : List ℕ
   pub z-is : zOf 1 p n C v b beta gamma ≡ some z
   pub values : FiveAt p n (wiresOf 1 p n v b) z zeta five
+
+pub record LaysFive (p n : ℕ) (C : Constraints) (x v : ℕ → ℕ) (beta gamma alpha zeta : ℕ) (five b : List ℕ) : Type 0 where
+  pub blinders : Elements p blinderCount b
+  pub laid : List ℕ
+  pub laid-is : proved 1 p n C x v b beta gamma alpha ≡ some laid
+  pub values : FiveAt p n (λ c. wirePart 1 n c laid) (zPart 1 n laid) zeta five
 
 -- `Gives zeta five b` says that the choice b gives these five at zeta
 pub record FiveValues (p n : ℕ) (Gives : (zeta : ℕ) (five b : List ℕ) → Type 0) : Type 0 where
@@ -75,12 +85,14 @@ pub record EquallyMany (P Q : List ℕ → Type 0) : Type 0 where
 
 -- FOUR POLYNOMIALS FOR NINE NUMBERS
 
+-- what blinds the three wires, and z
 abbrev Four : Type 0
 Four = List ℕ × (List ℕ × (List ℕ × List ℕ))
 
 abbrev blinders : List ℕ → Four
 blinders b = (wireBlinder 1 b 0, (wireBlinder 1 b 1, (wireBlinder 1 b 2, zBlinder 1 b)))
 
+-- back: the highest coefficient of each comes first
 nine : Four → List ℕ
 nine s =
     let f : List ℕ = s .0 in
@@ -297,8 +309,6 @@ zero-off q n D h = one-nonzero (D .prime) (back h ⨾ cong (zero-power n (omega 
     zero-power zero l = absurd (omega arith)
     zero-power (suc m) l = pow-succ' 0 m ∙ omega arith
 
--- THE THEOREM
-
 of-domain : (q n : ℕ) → Domain (suc q) n → (C : Constraints) (v : ℕ → ℕ) (beta gamma : ℕ) → zeroFactor (suc q) n C v beta gamma ≡ n
     → FiveValues (suc q) n (GivesFive (suc q) n C v beta gamma)
 of-domain q n D C v beta gamma e =
@@ -310,10 +320,78 @@ of-domain q n D C v beta gamma e =
       never = λ five E ne. exactly-never q n D C v beta gamma (G .0) (G .1 .is) 0 (zero-off q n D) five E refl ne;
     }
 
+-- WHAT THE PROVER LAYS
+
+-- it has the wires and z as its parts
+module _ {p n : ℕ} (D : Domain p n) (C : Constraints) (x v : ℕ → ℕ) (beta gamma alpha : ℕ) (rows : List ℕ) (is : zRows p n C v beta gamma ≡ some rows) where
+  -- FiveAt sees the three wires and z only
+  five-ext : {wire wire' : ℕ → List ℕ} {z z' : List ℕ} {zeta : ℕ} {five : List ℕ} → ((c : ℕ) → c < 3 → wire c ≡ wire' c) → z ≡ z' → FiveAt p n wire z zeta five
+      → FiveAt p n wire' z' zeta five
+  five-ext {zeta = zeta} h e F =
+      record {
+        wires = λ c l. ap (λ (f : List ℕ). eval f zeta % p) (sym (h c l)) ∙ F .wires c l;
+        z-here = ap (λ (f : List ℕ). eval f zeta % p) (sym e) ∙ F .z-here;
+        z-next = ap (λ (f : List ℕ). eval f (root p n * zeta) % p) (sym e) ∙ F .z-next;
+      }
+
+  module _ (zeta : ℕ) (five b : List ℕ) where
+    abbrev zs : List ℕ
+    zs = laidZ 1 p n C v b beta gamma rows is
+
+    abbrev T : List ℕ
+    T = transcript (wiresOf 1 p n v b) zs (tOf 1 p n C x v b zs beta gamma alpha)
+
+    wires-long : (c : ℕ) → c < 3 → length (wiresOf 1 p n v b c) ≡ wireLength 1 n
+    wires-long c l = wires-elements D 1 b v c .long
+
+    wire-at : (c : ℕ) → c < 3 → wirePart 1 n c T ≡ wiresOf 1 p n v b c
+    wire-at = wire-part 1 n (wiresOf 1 p n v b) zs (tOf 1 p n C x v b zs beta gamma alpha) wires-long
+
+    z-at : zPart 1 n T ≡ zs
+    z-at = z-part 1 n (wiresOf 1 p n v b) zs (tOf 1 p n C x v b zs beta gamma alpha) wires-long (z-elements D 1 b (coef rows) .long)
+
+    gives-lays : GivesFive p n C v beta gamma zeta five b → LaysFive p n C x v beta gamma alpha zeta five b
+    gives-lays h =
+        record {
+          blinders = h .blinders;
+          laid = T;
+          laid-is = proved-laid 1 p n C v b beta gamma rows is x alpha;
+          values = five-ext (λ c l. sym (wire-at c l)) (cc (z-laid 1 p n C v b beta gamma rows is, h .z-is, z-at)) (h .values);
+        }
+
+    lays-gives : LaysFive p n C x v beta gamma alpha zeta five b → GivesFive p n C v beta gamma zeta five b
+    lays-gives h =
+        let same : T ≡ h .laid = cc (proved-laid 1 p n C v b beta gamma rows is x alpha, h .laid-is) in
+        record {
+          blinders = h .blinders;
+          z = zs;
+          z-is = z-laid 1 p n C v b beta gamma rows is;
+          values =
+              five-ext (λ c l. ap (wirePart 1 n c) (sym same) ∙ wire-at c l) (ap (zPart 1 n) (sym same) ∙ z-at) (h .values);
+        }
+
+-- THE THEOREM
+
 pub five-values : (p n : ℕ) → Admissible p n → (C : Constraints) (v : ℕ → ℕ) (beta gamma : ℕ) → zeroFactor p n C v beta gamma ≡ n
     → FiveValues p n (GivesFive p n C v beta gamma)
 five-values zero n A = absurd (omega (arith, domain zero n A .prime .two))
 five-values (suc q) n A = of-domain q n (domain (suc q) n A)
+
+pub five-of : {p n : ℕ} {G H : (zeta : ℕ) (five b : List ℕ) → Type 0} → FiveValues p n G → ((zeta : ℕ) (five b : List ℕ) → G zeta five b → H zeta five b)
+    → ((zeta : ℕ) (five b : List ℕ) → H zeta five b → G zeta five b) → FiveValues p n H
+five-of F to from =
+    record {
+      off-zero = λ zeta l ne off five E. exactly-of (F .off-zero zeta l ne off five E) (to zeta five) (from zeta five);
+      at-zero = λ five E same. exactly-of (F .at-zero five E same) (to 0 five) (from 0 five);
+      never = λ five E ne. exactly-of (F .never five E ne) (to 0 five) (from 0 five);
+    }
+
+pub five-laid : (p n : ℕ) → Admissible p n → (C : Constraints) (x v : ℕ → ℕ) (beta gamma : ℕ) → zeroFactor p n C v beta gamma ≡ n → (alpha : ℕ)
+    → FiveValues p n (LaysFive p n C x v beta gamma alpha)
+five-laid p n A C x v beta gamma e alpha =
+    let D = domain p n A in
+    let G = grand-product D C v beta gamma e in
+    five-of (five-values p n A C v beta gamma e) (gives-lays D C x v beta gamma alpha (G .0) (G .1 .is)) (lays-gives D C x v beta gamma alpha (G .0) (G .1 .is))
 
 pub equally-many : {p n : ℕ} {G H : (zeta : ℕ) (five b : List ℕ) → Type 0} → FiveValues p n G → FiveValues p n H
     → (zeta : ℕ) → zeta < p → zeta ^ n % p ≢ 1 → (five : List ℕ) → Elements p 5 five → EquallyMany (G zeta five) (H zeta five)
