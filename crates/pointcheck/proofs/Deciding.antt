@@ -13,23 +13,26 @@ use Rattle.algebra.specs.Tables.{all-getD, all-left, all-right}
 use Rattle.field.specs.Lent.{lent-numbers, lent-of}
 use Rattle.field.specs.Reasons.{answerOf, lentReasons, badElement}
 use Rattle.field.specs.ReasonLaws.{none-applies, both-none, elements-of}
+use Rattle.circuit.specs.Buffers.{blindedBy}
+use Rattle.circuit.specs.Parts.{blinded-least}
 use Rattle.circuit.specs.Reasons.{pointDue, pointReasons}
 use Rattle.pointcheck.specs.Buffers.{Checked}
 
 pub checked : (p n l : ℕ) (publics prepared transcript challenges scratch : List ℕ)
     → answerOf (pointReasons p n l publics prepared transcript challenges scratch) .number ≡ 0
     → Checked p n publics prepared transcript challenges scratch
-checked p n l publics prepared transcript challenges scratch e =
+checked p n l publics prepared transcript challenges scratch none =
     let P : ℕ → Type 0 = λ x. x < p in
+    let due : List ℕ = pointDue (blindedBy n transcript) n l in
     let long : List ℕ = length publics ∷ length prepared ∷ length transcript ∷ length challenges ∷ length scratch ∷ [] in
     let all : List ℕ = publics ++ (prepared ++ (transcript ++ challenges)) in
-    let both = both-none (lentReasons p n l long (pointDue n l)) (badElement p all ∷ []) (lent-numbers p n l long (pointDue n l)) e in
-    let lent = lent-of p n l long (pointDue n l) refl (both .0) in
+    let both = both-none (lentReasons p n l long due) (badElement p all ∷ []) (lent-numbers p n l long due) none in
+    let lent = lent-of p n l long due refl (both .0) in
     let below : All P all = elements-of p all (none-applies (badElement p all ∷ []) (omega arith, tt) (both .1) .0) in
     let drawn : All P challenges = all-right P transcript challenges (all-right P prepared (transcript ++ challenges) (all-right P publics (prepared ++ (transcript ++ challenges)) below)) in
     let four : length challenges ≡ 4 = cc (lent .lengths) in
     record {
-      readable = record { admissible = lent .admissible; prepared-length = cc (lent .lengths); transcript-length = cc (lent .lengths) };
+      readable = record { blinded = blinded-least n transcript; admissible = lent .admissible; prepared-length = cc (lent .lengths); transcript-length = cc (lent .lengths) };
       publics-lent = record { admissible = lent .admissible; elements = all-left P publics (prepared ++ (transcript ++ challenges)) below };
       challenges-length = four;
       scratch-length = cc (lent .lengths);

@@ -43,7 +43,8 @@ pub fn decide(
         challenges.len(),
         scratch.len(),
     ];
-    let due = circuit::due::point(n as usize, l as usize);
+    let e = circuit::blinded_by(n as usize, transcript);
+    let due = circuit::due::point(e, n as usize, l as usize);
     let answer = field::decide_lent(p, n, l, &long, &due);
     let number = answer.number;
     if number != 0 {

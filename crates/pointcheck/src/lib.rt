@@ -4,7 +4,7 @@
 // at zeta, and the numbers are combined.
 ghost use mathlib.Core.Path.{_≡_};
 ghost use lib.ListN.{replicate};
-ghost use Rattle.transform.specs.Transform.{scratchLength};
+ghost use Rattle.circuit.specs.Buffers.{workLength, blindedBy};
 ghost use Rattle.pointcheck.specs.Promises.{PointChecks, judgedAt};
 ghost use Rattle.pointcheck.specs.Buffers.{Checked};
 use field::Answer;
@@ -27,7 +27,7 @@ pub struct PointAnswer {
     pub verdict: Judged,
 }
 
-// The work on checked numbers: the two sides at zeta are compared, and the scratch is cleared.
+// The work on checked numbers, e being 1 where the transcript is blinded, else 0: the two sides at zeta are compared, and the scratch is cleared.
 fn work(
     p: u32,
     n: u32,
@@ -39,17 +39,18 @@ fn work(
 ) -> Judged
     requires { ⌜ Checked p n (now publics) (now prepared) (now transcript) (now challenges) (now scratch) ⌝ }
     ensures { λ r. ⌜ r ≡ judgedAt p n (now (publics .entry)) (now (prepared .entry)) (now (transcript .entry)) (now (challenges .entry)) ⌝ }
-    ensures { λ _. ⌜ now (scratch .exit) ≡ replicate (scratchLength n) 0 ⌝ }
+    ensures { λ _. ⌜ now (scratch .exit) ≡ replicate (workLength (blindedBy n (now (transcript .entry))) n) 0 ⌝ }
 {
+    let e = circuit::blinded_by(n as usize, transcript);
     let x = publics::public_at(p, n, publics, challenges[3], scratch);
     transform::slices::clear(scratch);
-    if sides::equal_at(p, n, x, prepared, transcript, challenges) {
+    if sides::equal_at(e, p, n, x, prepared, transcript, challenges) {
         return Judged::Accept;
     }
     Judged::Reject
 }
 
-// Accept if F(zeta) = t(zeta) × (zeta^n - 1), else reject; or why the call is turned down. The challenges are beta, gamma, alpha, zeta.
+// Accept if F(zeta) = t(zeta) × (zeta^n - 1), else reject; or why the call is turned down. The transcript may be blinded: its length decides. The challenges are beta, gamma, alpha, zeta.
 pub fn check_point(
     p: u32,
     n: u32,
