@@ -35,6 +35,7 @@ module _ (p n : ℕ) (prepared transcript list evaluations opening challenges sc
       omega (
         arith,
         rows-power p n (C .readable .admissible .rows) .small,
+        C .readable .blinded,
         C .readable .prepared-length,
         C .readable .transcript-length,
         C .evaluations-length,

@@ -1,7 +1,7 @@
 -- What an opening shows, about the calls' own answers: any that keep the calls' promises, Opens and ChecksOpening.
 --
--- THE COUNT
--- OpeningAccepts      a mixing number with which `check_opening`, lent these evaluations and some opening polynomial of 3n - 4 elements, answers Accept
+-- THE COUNT, e being 1 where the transcript is blinded, else 0
+-- OpeningAccepts      a mixing number with which `check_opening`, lent these evaluations and some opening polynomial of 3n - 4 + 9e elements, answers Accept
 -- few-mixtures        evaluations that are not all right: there are fewer such numbers than the list is long
 -- AFTER AN ACCEPTED `open`
 -- opened-accepted     after an accepted `open`, `check_opening` lent the same buffers answers Accept, whatever the point and m
@@ -21,8 +21,8 @@ use Rattle.algebra.specs.Counting.{at-most-of}
 use Rattle.algebra.specs.Tables.{all-append, all-left, all-right}
 use Rattle.field.specs.declared.Answer.{Answer}
 use Rattle.field.specs.Reasons.{isAccepted}
-use Rattle.transform.specs.Transform.{scratchLength}
-use Rattle.circuit.specs.Buffers.{openingLength}
+use Rattle.circuit.specs.Buffers.{openingLength, workLength, blindedBy}
+use Rattle.circuit.specs.Parts.{blinded-of}
 use Rattle.protocol.specs.Protocol.{accept}
 use Rattle.pointcheck.specs.declared.PointAnswer.{PointAnswer}
 use Rattle.pointcheck.specs.declared.Judged.the-variants.{Accept}
@@ -35,26 +35,26 @@ use Rattle.opening.specs.Openings.{Openings, openings}
 
 -- THE COUNT
 
-pub record OpeningAccepts (p n : ℕ) (prepared transcript list evaluations : List ℕ) (point m : ℕ) : Type 0 where
+pub record OpeningAccepts (e p n : ℕ) (prepared transcript list evaluations : List ℕ) (point m : ℕ) : Type 0 where
   pub m-element : m < p
   pub opening : List ℕ
-  pub opening-elements : Elements p (openingLength n) opening
+  pub opening-elements : Elements p (openingLength e n) opening
   pub scratch : List ℕ
   pub scratch' : List ℕ
   pub r : PointAnswer
   pub checks : ChecksOpening p n prepared transcript list evaluations opening (point ∷ m ∷ []) scratch r scratch'
   pub accepts : r .verdict ≡ Accept
 
-pub few-mixtures : (p n : ℕ) (prepared transcript list : List ℕ) → Readable p n prepared transcript
-    → (point : ℕ) (evaluations : List ℕ) → Elements p (length list) evaluations → evaluations ≢ evaluationsOf p n prepared transcript list point
-    → AtMost (length list - 1) (OpeningAccepts p n prepared transcript list evaluations point)
-few-mixtures p n prepared transcript list R point evaluations E wrong =
-    at-most-of (openings p n prepared transcript list R .sound point evaluations E wrong)
+pub few-mixtures : (e p n : ℕ) (prepared transcript list : List ℕ) → Readable e p n prepared transcript
+    → (point : ℕ) (evaluations : List ℕ) → Elements p (length list) evaluations → evaluations ≢ evaluationsOf e p n prepared transcript list point
+    → AtMost (length list - 1) (OpeningAccepts e p n prepared transcript list evaluations point)
+few-mixtures e p n prepared transcript list R point evaluations E wrong =
+    at-most-of (openings e p n prepared transcript list R .sound point evaluations E wrong)
     (λ m h. record {
       m-element = h .m-element;
       opening = h .opening;
       opening-elements = h .opening-elements;
-      accepted = accept-of (isAccepted (h .r .answer)) _ (sym (h .checks .verdict) ∙ h .accepts);
+      accepted = rw (← blinded-of e n transcript (R .blinded) (R .transcript-length)) (accept-of (isAccepted (h .r .answer)) _ (sym (h .checks .verdict) ∙ h .accepts));
     })
     (omega arith)
 
@@ -68,8 +68,8 @@ module _ (p n : ℕ) (prepared transcript list evaluations opening challenges sc
   abbrev known : LentRightly p n prepared transcript list evaluations opening challenges scratch
   known = was .0
 
-  O : Openings p n prepared transcript list
-  O = openings p n prepared transcript list (known .checked .readable)
+  O : Openings (blindedBy n transcript) p n prepared transcript list
+  O = openings (blindedBy n transcript) p n prepared transcript list (known .checked .readable)
 
   abbrev point : ℕ
   point = getD challenges 0 0
@@ -77,19 +77,19 @@ module _ (p n : ℕ) (prepared transcript list evaluations opening challenges sc
   abbrev m : ℕ
   m = getD challenges 1 0
 
-  evaluated : evaluations' ≡ evaluationsOf p n prepared transcript list (getD challenges 0 0)
+  evaluated : evaluations' ≡ evaluationsOf (blindedBy n transcript) p n prepared transcript list (getD challenges 0 0)
   evaluated = rw (eq-eqb _ _ taken) at (opens .evaluated)
 
-  opened : opening' ≡ openingOf p n prepared transcript list (getD challenges 0 0) (getD challenges 1 0)
+  opened : opening' ≡ openingOf (blindedBy n transcript) p n prepared transcript list (getD challenges 0 0) (getD challenges 1 0)
   opened = rw (eq-eqb _ _ taken) at (opens .opened)
 
-  cleared : scratch' ≡ replicate (scratchLength n) 0
+  cleared : scratch' ≡ replicate (workLength (blindedBy n transcript) n) 0
   cleared = rw (eq-eqb _ _ taken) at (opens .cleared)
 
   right-evaluations : Elements p (length list) evaluations'
   right-evaluations = rw evaluated (O .evaluations-long point)
 
-  right-opening : Elements p (openingLength n) opening'
+  right-opening : Elements p (openingLength (blindedBy n transcript) n) opening'
   right-opening = rw opened (O .opening-long point m)
 
   lent-again : LentRightly p n prepared transcript list evaluations' opening' challenges scratch'
@@ -101,7 +101,7 @@ module _ (p n : ℕ) (prepared transcript list evaluations opening challenges sc
           opening-length = right-opening .long;
           challenges-length = known .checked .challenges-length;
         };
-        scratch-length = ap length cleared ∙ length-replicate (scratchLength n) 0;
+        scratch-length = ap length cleared ∙ length-replicate (workLength (blindedBy n transcript) n) 0;
         list-right = known .list-right;
       }
 
@@ -118,5 +118,5 @@ module _ (p n : ℕ) (prepared transcript list evaluations opening challenges sc
   opened-accepted s scratch'' checks =
       let answered : s .answer ≡ record { number = 0; detail = 0 } =
       checks .answer ∙ opening-taken p n prepared transcript list evaluations' opening' challenges scratch' true lent-again elements in
-      let verdict : openingVerdict p n prepared transcript list evaluations' opening' point m ≡ accept = rw (evaluated, opened) (O .complete point m) in
+      let verdict : openingVerdict (blindedBy n transcript) p n prepared transcript list evaluations' opening' point m ≡ accept = rw (evaluated, opened) (O .complete point m) in
       checks .verdict ∙ answer-accept (s .answer) _ answered verdict

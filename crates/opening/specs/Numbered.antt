@@ -38,35 +38,35 @@ any-rows {p} {n} A =
 abbrev numbersOf : Part → List ℕ
 numbersOf P = take (P .count) (drop (P .start) (now (P .buffer)))
 
-pub handed : {p : ℕ} (n : ℕ) (pre lent r : RefT (List ℕ)) → Readable p n (now pre) (now lent) → (k : ℕ) → Hands (polynomialPart n k pre lent) r
-    → now r ≡ polynomialOf n (now pre) (now lent) k
+pub handed : {p : ℕ} (e n : ℕ) (pre lent r : RefT (List ℕ)) → Readable e p n (now pre) (now lent) → (k : ℕ) → Hands (polynomialPart n k pre lent) r
+    → now r ≡ polynomialOf e n (now pre) (now lent) k
 unfolding polynomialOf
-handed n pre lent r R k H =
-    numbered n pre lent r k (any-rows (R .admissible)) (R .prepared-length) (R .transcript-length) H .numbers
+handed e n pre lent r R k H =
+    numbered e n (R .blinded) pre lent r k (any-rows (R .admissible)) (R .prepared-length) (R .transcript-length) H .numbers
     ∙ go (ltb k wireNumber) (ltb k zNumber) (eqb k zNumber) (eqb k tNumber)
   where
     go : (a b c d : Bool)
-        → numbersOf (cond a (preparedPlace n k pre) (cond b (wirePlace n (k - wireNumber) lent) (cond c (zPlace n lent) (cond d (tPlace n lent) (noPart lent)))))
-        ≡ cond a (preparedPart n k (now pre)) (cond b (wirePart n (k - wireNumber) (now lent)) (cond c (zPart n (now lent)) (cond d (tPart n (now lent)) [])))
+        → numbersOf (cond a (preparedPlace n k pre) (cond b (wirePlace e n (k - wireNumber) lent) (cond c (zPlace e n lent) (cond d (tPlace e n lent) (noPart lent)))))
+        ≡ cond a (preparedPart n k (now pre)) (cond b (wirePart e n (k - wireNumber) (now lent)) (cond c (zPart e n (now lent)) (cond d (tPart e n (now lent)) [])))
     go true b c d = refl
     go false true c d = refl
     go false false true d = refl
     go false false false true =
-        take-all (quotientLength n) (drop (tStart n) (now lent)) (omega (arith, length-drop (tStart n) (now lent), R .transcript-length))
+        take-all (quotientLength e n) (drop (tStart e n) (now lent)) (omega (arith, length-drop (tStart e n) (now lent), R .transcript-length))
     go false false false false = refl
 
-pub short-polynomial : {p n : ℕ} {prepared transcript : List ℕ} → Readable p n prepared transcript → (k : ℕ)
-    → length (polynomialOf n prepared transcript k) ≤ quotientLength n
+pub short-polynomial : {e p n : ℕ} {prepared transcript : List ℕ} → Readable e p n prepared transcript → (k : ℕ)
+    → length (polynomialOf e n prepared transcript k) ≤ quotientLength e n
 unfolding polynomialOf
-short-polynomial {p} {n} {prepared} {transcript} R k = go (ltb k wireNumber) (ltb k zNumber) (eqb k zNumber) (eqb k tNumber)
+short-polynomial {e} {p} {n} {prepared} {transcript} R k = go (ltb k wireNumber) (ltb k zNumber) (eqb k zNumber) (eqb k tNumber)
   where
     two : 2 ≤ n
     two = rows-power p n (R .admissible .rows) .least
 
     go : (a b c d : Bool)
-        → length (cond a (preparedPart n k prepared) (cond b (wirePart n (k - wireNumber) transcript) (cond c (zPart n transcript) (cond d (tPart n transcript) [])))) ≤ quotientLength n
+        → length (cond a (preparedPart n k prepared) (cond b (wirePart e n (k - wireNumber) transcript) (cond c (zPart e n transcript) (cond d (tPart e n transcript) [])))) ≤ quotientLength e n
     go true b c d = omega (arith, two, short-prepared n prepared k)
-    go false true c d = omega (arith, two, short-wire n transcript (k - wireNumber))
-    go false false true d = omega (arith, two, short-z n transcript)
-    go false false false true = omega (arith, length-drop (tStart n) transcript, R .transcript-length)
+    go false true c d = omega (arith, two, short-wire e n transcript (k - wireNumber))
+    go false false true d = omega (arith, two, short-z e n transcript)
+    go false false false true = omega (arith, length-drop (tStart e n) transcript, R .transcript-length)
     go false false false false = omega arith

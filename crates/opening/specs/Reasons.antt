@@ -1,6 +1,6 @@
 -- The reasons for turning down `open` and `check_opening`, in order: 2, 3 and 6, then those of the list, 12 and 13, then 7.
 --
--- openingDue n k       the lengths due, k being the list's: prepared circuit, transcript, list (of any length), evaluations, opening polynomial,
+-- openingDue e n k     the lengths due, e being 1 where the transcript is blinded, else 0, and k being the list's: prepared circuit, transcript, list (of any length), evaluations, opening polynomial,
 --                      challenges, scratch
 -- badList list         12: the list is empty, or longer than there are polynomials by number
 -- badNumber list       13: a number in it is no polynomial's; detail: the first such place in the list
@@ -17,11 +17,10 @@ use Prim.Native.Nat.{ℕ}
 use lib.Dec.{eqb, ltb}
 use lib.ListN.{length}
 use Rattle.field.specs.Reasons.{Reason, lentReasons, reasonAt, firstAbove, badElement}
-use Rattle.transform.specs.Transform.{scratchLength}
-use Rattle.circuit.specs.Buffers.{polynomialCount, preparedLength, transcriptLength, openingLength}
+use Rattle.circuit.specs.Buffers.{polynomialCount, preparedLength, transcriptLength, openingLength, workLength, blindedBy}
 
-abbrev pub openingDue : (n k : ℕ) → List ℕ
-openingDue n k = preparedLength n ∷ transcriptLength n ∷ k ∷ k ∷ openingLength n ∷ 2 ∷ scratchLength n ∷ []
+abbrev pub openingDue : (e n k : ℕ) → List ℕ
+openingDue e n k = preparedLength n ∷ transcriptLength e n ∷ k ∷ k ∷ openingLength e n ∷ 2 ∷ workLength e n ∷ []
 
 abbrev pub badList : List ℕ → Reason
 badList list = record { number = 12; detail = 0; applies = eqb (length list) 0 || ltb polynomialCount (length list) }
@@ -37,7 +36,7 @@ module _ (p n : ℕ) (prepared transcript list evaluations opening challenges sc
   lentListReasons =
       lentReasons p n 0
       (length prepared ∷ length transcript ∷ length list ∷ length evaluations ∷ length opening ∷ length challenges ∷ length scratch ∷ [])
-      (openingDue n (length list))
+      (openingDue (blindedBy n transcript) n (length list))
       ++ listReasons list
 
   abbrev pub counted : Bool → List ℕ

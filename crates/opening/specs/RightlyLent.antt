@@ -21,8 +21,8 @@ use Rattle.algebra.specs.Search.{both-false}
 use Rattle.field.specs.Reasons.{Reason, answerOf, lentReasons, badElement}
 use Rattle.field.specs.ReasonLaws.{none-applies, taken, both-none, both-taken, elements-of, elements-none}
 use Rattle.field.specs.Lent.{lent-numbers, lent-of, lent-taken}
-use Rattle.transform.specs.Transform.{scratchLength}
-use Rattle.circuit.specs.Buffers.{polynomialCount}
+use Rattle.circuit.specs.Buffers.{polynomialCount, workLength, blindedBy}
+use Rattle.circuit.specs.Parts.{blinded-least}
 use Rattle.opening.specs.Reasons.{openingDue, listReasons, lentListReasons, counted, openingReasons}
 use Rattle.opening.specs.Buffers.{Checked}
 
@@ -33,7 +33,7 @@ pub record RightList (list : List ℕ) : Type 0 where
 
 pub record LentRightly (p n : ℕ) (prepared transcript list evaluations opening challenges scratch : List ℕ) : Type 0 where
   pub checked : Checked p n prepared transcript list evaluations opening challenges
-  pub scratch-length : length scratch ≡ scratchLength n
+  pub scratch-length : length scratch ≡ workLength (blindedBy n transcript) n
   pub list-right : RightList list
 
 -- THE LIST
@@ -70,12 +70,12 @@ module _ (p n : ℕ) (prepared transcript list evaluations opening challenges sc
   pub lent-list-of : answerOf (lentListReasons p n prepared transcript list evaluations opening challenges scratch) .number ≡ 0
       → LentRightly p n prepared transcript list evaluations opening challenges scratch
   lent-list-of e =
-      let due = openingDue n (length list) in
+      let due = openingDue (blindedBy n transcript) n (length list) in
       let both = both-none (lentReasons p n 0 long due) (listReasons list) (lent-numbers p n 0 long due) e in
       let lent = lent-of p n 0 long due refl (both .0) in
       record {
         checked = record {
-          readable = record { admissible = lent .admissible; prepared-length = cc (lent .lengths); transcript-length = cc (lent .lengths) };
+          readable = record { blinded = blinded-least n transcript; admissible = lent .admissible; prepared-length = cc (lent .lengths); transcript-length = cc (lent .lengths) };
           evaluations-length = cc (lent .lengths);
           opening-length = cc (lent .lengths);
           challenges-length = cc (lent .lengths);
@@ -87,7 +87,7 @@ module _ (p n : ℕ) (prepared transcript list evaluations opening challenges sc
   pub lent-list-taken : LentRightly p n prepared transcript list evaluations opening challenges scratch
       → answerOf (lentListReasons p n prepared transcript list evaluations opening challenges scratch) ≡ record { number = 0; detail = 0 }
   lent-list-taken L =
-      let due = openingDue n (length list) in
+      let due = openingDue (blindedBy n transcript) n (length list) in
       let c = L .checked in
       both-taken (lentReasons p n 0 long due) (listReasons list) (lent-numbers p n 0 long due)
       (lent-taken

@@ -21,6 +21,7 @@ use Rattle.field.specs.Reasons.{answerOf, firstOther, firstAbove}
 use Rattle.transform.specs.Transform.{interpolation}
 use Rattle.transform.specs.Parts.{laid}
 use Rattle.circuit.specs.Circuit.{permutation}
+use Rattle.circuit.specs.Buffers.{blindedBy}
 use Rattle.protocol.specs.Protocol.{accept, reject}
 use Rattle.protocol.specs.Protocol as protocol
 use Rattle.protocol.specs.Worked.{circuit, transcriptWorked, Value, Case, numbers, answer, atPoint, _&_}
@@ -34,13 +35,13 @@ abbrev pub transcript : List ℕ
 transcript = transcriptWorked
 
 abbrev pub evaluated : List ℕ → ℕ → Value
-evaluated list x = numbers (evaluationsOf 17 2 prepared transcript list x)
+evaluated list x = numbers (evaluationsOf 0 17 2 prepared transcript list x)
 
 abbrev pub opened : List ℕ → ℕ → ℕ → Value
-opened list x m = numbers (openingOf 17 2 prepared transcript list x m)
+opened list x m = numbers (openingOf 0 17 2 prepared transcript list x m)
 
 abbrev pub judged : List ℕ → List ℕ → List ℕ → ℕ → ℕ → Value
-judged list s h x m = atPoint (openingVerdict 17 2 prepared transcript list s h x m)
+judged list s h x m = atPoint (openingVerdict 0 17 2 prepared transcript list s h x m)
 
 -- the evaluations' length is the one due
 abbrev pub answered : List ℕ → Value
@@ -81,5 +82,5 @@ table =
     ∷ []
 
 pub worked : All (λ r. r .is ≡ r .should) table
-unfolding tab powF first inverse reduced isField isRows greatestRows generator root point multiplier tag firstOther firstAbove interpolation permutation laid protocol.prepared polynomialOf evaluationsOf mixtureOf openingOf openingVerdict ones
+unfolding tab powF first inverse reduced isField isRows greatestRows generator root point multiplier tag firstOther firstAbove interpolation permutation laid protocol.prepared polynomialOf evaluationsOf mixtureOf openingOf openingVerdict blindedBy ones
 worked = refl & refl & refl & refl & refl & refl & refl & refl & refl & refl & refl & refl & refl & refl & refl & refl & refl & refl & refl & refl & refl & refl & refl & tt

@@ -7,20 +7,20 @@ ghost use Rattle.field.specs.Reasons.{answerOf, badElement};
 ghost use Rattle.opening.specs.Reasons.{openingDue, listReasons, lentListReasons, openingReasons};
 use field::Answer;
 
-// The lengths due, in the order in which the buffers are counted, for a list of k numbers: prepared circuit, transcript, list, evaluations,
+// The lengths due, in the order in which the buffers are counted, for a list of k numbers, e being 1 where the transcript is blinded, else 0: prepared circuit, transcript, list, evaluations,
 // opening polynomial, challenges, scratch.
-fn lengths_due(n: usize, k: usize) -> [usize; 7]
-    requires { ⌜ n < 4294967296 ⌝ }
-    ensures { λ r. ⌜ r ≡ openingDue n k ⌝ }
+fn lengths_due(e: usize, n: usize, k: usize) -> [usize; 7]
+    requires { ⌜ (e ≤ 1) × (n < 4294967296) ⌝ }
+    ensures { λ r. ⌜ r ≡ openingDue e n k ⌝ }
 {
     [
         circuit::prepared_length(n),
-        circuit::transcript_length(n),
+        circuit::transcript_length(e, n),
         k,
         k,
-        circuit::opening_length(n),
+        circuit::opening_length(e, n),
         2,
-        transform::scratch_length(n),
+        circuit::work_length(e, n),
     ]
 }
 
@@ -65,7 +65,8 @@ fn decide_lent(
         challenges.len(),
         scratch.len(),
     ];
-    let due = lengths_due(n as usize, list.len());
+    let e = circuit::blinded_by(n as usize, transcript);
+    let due = lengths_due(e, n as usize, list.len());
     let answer = field::decide_lent(p, n, 0, &long, &due);
     let number = answer.number;
     if number != 0 {

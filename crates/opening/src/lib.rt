@@ -1,10 +1,10 @@
 // Opening several polynomials at one point: their evaluations, and one polynomial that shows them right.
 //
-// Public calls: `open` and `check_opening`. Each decides first, reading only, and then does the work. The challenges are the point, then the
-// mixing number m.
+// Public calls: `open` and `check_opening`. Each decides first, reading only, and then does the work. The transcript may be blinded: its length
+// decides, and e is 1 where it is, else 0. The challenges are the point, then the mixing number m.
 ghost use mathlib.Core.Path.{_≡_};
 ghost use lib.ListN.{length, getD, replicate};
-ghost use Rattle.transform.specs.Transform.{scratchLength};
+ghost use Rattle.circuit.specs.Buffers.{workLength, blindedBy};
 ghost use Rattle.opening.specs.Opening.{evaluationsOf, openingOf};
 ghost use Rattle.opening.specs.Promises.{judgedOpening, Opens, ChecksOpening};
 ghost use Rattle.opening.specs.Buffers.{Checked};
@@ -30,13 +30,14 @@ fn work<'a>(
     scratch: &mut [u32],
 )
     requires { ⌜ Checked p n (now prepared) (now transcript) (now list) (now evaluations) (now opening) (now challenges) ⌝ }
-    requires { ⌜ length (now scratch) ≡ scratchLength n ⌝ }
-    ensures { λ _. ⌜ now (evaluations .exit) ≡ evaluationsOf p n (now (prepared .entry)) (now (transcript .entry)) (now (list .entry)) (getD (now (challenges .entry)) 0 0) ⌝ }
-    ensures { λ _. ⌜ now (opening .exit) ≡ openingOf p n (now (prepared .entry)) (now (transcript .entry)) (now (list .entry)) (getD (now (challenges .entry)) 0 0) (getD (now (challenges .entry)) 1 0) ⌝ }
-    ensures { λ _. ⌜ now (scratch .exit) ≡ replicate (scratchLength n) 0 ⌝ }
+    requires { ⌜ length (now scratch) ≡ workLength (blindedBy n (now transcript)) n ⌝ }
+    ensures { λ _. ⌜ now (evaluations .exit) ≡ evaluationsOf (blindedBy n (now (transcript .entry))) p n (now (prepared .entry)) (now (transcript .entry)) (now (list .entry)) (getD (now (challenges .entry)) 0 0) ⌝ }
+    ensures { λ _. ⌜ now (opening .exit) ≡ openingOf (blindedBy n (now (transcript .entry))) p n (now (prepared .entry)) (now (transcript .entry)) (now (list .entry)) (getD (now (challenges .entry)) 0 0) (getD (now (challenges .entry)) 1 0) ⌝ }
+    ensures { λ _. ⌜ now (scratch .exit) ≡ replicate (workLength (blindedBy n (now (transcript .entry))) n) 0 ⌝ }
 {
     mixing::evaluate(p, n, prepared, transcript, list, challenges[0], evaluations);
-    let long = circuit::quotient_length(n as usize);
+    let e = circuit::blinded_by(n as usize, transcript);
+    let long = circuit::quotient_length(e, n as usize);
     division::write_opening(
         p,
         n,
@@ -64,11 +65,12 @@ fn judge<'a>(
     scratch: &mut [u32],
 ) -> Judged
     requires { ⌜ Checked p n (now prepared) (now transcript) (now list) (now evaluations) (now opening) (now challenges) ⌝ }
-    requires { ⌜ length (now scratch) ≡ scratchLength n ⌝ }
+    requires { ⌜ length (now scratch) ≡ workLength (blindedBy n (now transcript)) n ⌝ }
     ensures { λ r. ⌜ r ≡ judgedOpening p n (now (prepared .entry)) (now (transcript .entry)) (now (list .entry)) (now (evaluations .entry)) (now (opening .entry)) (now (challenges .entry)) ⌝ }
-    ensures { λ _. ⌜ now (scratch .exit) ≡ replicate (scratchLength n) 0 ⌝ }
+    ensures { λ _. ⌜ now (scratch .exit) ≡ replicate (workLength (blindedBy n (now (transcript .entry))) n) 0 ⌝ }
 {
-    let long = circuit::quotient_length(n as usize);
+    let e = circuit::blinded_by(n as usize, transcript);
+    let long = circuit::quotient_length(e, n as usize);
     let same = comparing::agrees(
         p,
         n,

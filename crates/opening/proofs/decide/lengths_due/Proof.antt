@@ -12,8 +12,8 @@ transcript-length-requires c κs = search needs
 opening-length-requires : tie.Need-opening-length-requires
 opening-length-requires c κs = search needs
 
-scratch-length-requires : tie.Need-scratch-length-requires
-scratch-length-requires c κs = search needs
+work-length-requires : tie.Need-work-length-requires
+work-length-requires c κs = search needs
 
 returns : tie.Need-returns
 returns c = cc
@@ -25,5 +25,5 @@ lengths-due-spec =
     prepared-length-requires
     transcript-length-requires
     opening-length-requires
-    scratch-length-requires
+    work-length-requires
     returns)
