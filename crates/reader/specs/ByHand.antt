@@ -20,7 +20,7 @@ use Rattle.transform.specs.Passes.{strided, oddWord, passed}
 use Rattle.circuit.specs.Buffers.{wirePart, zPart, tPart}
 use Rattle.circuit.specs.Circuit.{Constraints, lentConstraints, lentPublic, witnessPlace, lentBy, laidBy, byRows, laidWitness, permutation, gate}
 use Rattle.circuit.specs.Worked.{publicSelectors, labels}
-use Rattle.protocol.specs.Protocol.{wiredTag, runningZ, rowN, rowD, polyN, polyD, polyL, gatePart, stepPart, startPart, polyF, quotient, preparedPoly, prepared, wiresOf, proved, pass, fails, gateIdentity, startIdentity, stepIdentity, rowsFrom, rowVerdict, accept, pointVerdict, zeroFactor, tagged, lostGammas}
+use Rattle.protocol.specs.Protocol.{wiredTag, runningZ, rowN, rowD, polyN, polyD, polyL, gatePart, stepPart, startPart, polyF, quotient, preparedPoly, prepared, blinded, wiresOf, proved, pass, fails, gateIdentity, startIdentity, stepIdentity, rowsFrom, rowVerdict, accept, pointVerdict, zeroFactor, tagged, lostGammas}
 use Rattle.protocol.specs.Worked.{circuit, publics, witness, lastIs11, rowIs5-7-12, zWorked, Case, Value, number, inverted, numbers, perhaps, rows, atPoint, _&_}
 use Rattle.opening.specs.Opening.{polynomialOf, less, named, evaluationsOf, mixtureOf}
 use Rattle.opening.specs.Worked as opened
@@ -29,7 +29,7 @@ abbrev pre : ℕ → List ℕ
 pre = preparedPoly 17 2 circuit
 
 abbrev wire : ℕ → List ℕ
-wire = wiresOf 17 2 witness
+wire = wiresOf 0 17 2 witness []
 
 abbrev z : List ℕ
 z = zWorked
@@ -60,11 +60,11 @@ checked v onRows = rows (rowVerdict 17 2 circuit publics v (coef onRows) 1 1)
 -- the opening of a, b, c, z and t at 2, with m = 3: each with its value taken off, and the sum of these, times the powers of 3
 abbrev shifted : ℕ → List ℕ
 shifted i =
-    let f : List ℕ = named 17 2 opened.prepared opened.transcript opened.five i in
+    let f : List ℕ = named 0 17 2 opened.prepared opened.transcript opened.five i in
     less 17 f (eval f 2)
 
 abbrev mixture : List ℕ
-mixture = mixtureOf 17 2 opened.prepared opened.transcript opened.five (evaluationsOf 17 2 opened.prepared opened.transcript opened.five 2) 3
+mixture = mixtureOf 0 17 2 opened.prepared opened.transcript opened.five (evaluationsOf 0 17 2 opened.prepared opened.transcript opened.five 2) 3
 
 -- the passes on 1 + 2X + 4X² + 8X³ over 17 with four rows: the coefficients, after the first pass, after the second
 abbrev points : List ℕ
@@ -105,10 +105,10 @@ abbrev filedPre : ℕ → List ℕ
 filedPre = preparedPoly 97 2 filed
 
 abbrev filedWire : ℕ → List ℕ
-filedWire c = wirePart 2 c filedTranscript
+filedWire c = wirePart 0 2 c filedTranscript
 
 abbrev filedZ : List ℕ
-filedZ = zPart 2 filedTranscript
+filedZ = zPart 0 2 filedTranscript
 
 abbrev at2 : List ℕ → ℕ
 at2 f = eval f 2 % 97
@@ -183,7 +183,7 @@ table =
     ∷ record { what = "public row: qO × c"; is = numbers (reduced 17 3 (mulP (preparedPoly 17 2 bound 2) (wire 2))); should = numbers (4 ∷ 6 ∷ 7 ∷ []) }
     ∷ record { what = "public row: gate"; is = numbers (reduced 17 3 (gatePart 17 (preparedPoly 17 2 bound) wire (interpolation 17 2 two))); should = numbers (5 ∷ 0 ∷ 12 ∷ []) }
     ∷ record { what = "public row: F"; is = numbers (reduced 17 5 boundF); should = numbers (13 ∷ 15 ∷ 6 ∷ 2 ∷ 15 ∷ []) }
-    ∷ record { what = "public row: transcript"; is = perhaps (proved 17 2 bound two witness 1 1 2); should = perhaps (some (4 ∷ 15 ∷ 13 ∷ 7 ∷ 9 ∷ 14 ∷ 16 ∷ 2 ∷ 4 ∷ 2 ∷ 15 ∷ [])) }
+    ∷ record { what = "public row: transcript"; is = perhaps (proved 0 17 2 bound two witness [] 1 1 2); should = perhaps (some (4 ∷ 15 ∷ 13 ∷ 7 ∷ 9 ∷ 14 ∷ 16 ∷ 2 ∷ 4 ∷ 2 ∷ 15 ∷ [])) }
     ∷ record { what = "public row: gate of row 0, public input 3"; is = number (gate 17 2 bound (lentPublic (3 ∷ [])) witness 0); should = number 16 }
     ∷ record { what = "a, b, c, z, each less its value at 2"; is = numbers (reduced 17 2 (shifted 0) ++ (reduced 17 2 (shifted 1) ++ (reduced 17 2 (shifted 2) ++ reduced 17 2 (shifted 3)))); should = numbers (4 ∷ 15 ∷ 3 ∷ 7 ∷ 6 ∷ 14 ∷ 13 ∷ 2 ∷ []) }
     ∷ record { what = "t less its value at 2"; is = numbers (reduced 17 3 (shifted 4)); should = numbers (1 ∷ 12 ∷ 15 ∷ []) }
@@ -199,7 +199,7 @@ table =
     ∷ record { what = "97: tags"; is = numbers (tab (tag 97 2) 6); should = numbers (1 ∷ 96 ∷ 5 ∷ 92 ∷ 25 ∷ 72 ∷ []) }
     ∷ record { what = "97: tags of where the permutation leads"; is = numbers (tab (wiredTag 97 2 filed) 6); should = numbers (1 ∷ 92 ∷ 5 ∷ 25 ∷ 96 ∷ 72 ∷ []) }
     ∷ record { what = "97: selectors and wired tags as polynomials"; is = numbers (prepared 97 2 filed); should = numbers (49 ∷ 48 ∷ 49 ∷ 48 ∷ 96 ∷ 0 ∷ 49 ∷ 49 ∷ 0 ∷ 0 ∷ 95 ∷ 3 ∷ 15 ∷ 87 ∷ 84 ∷ 12 ∷ []) }
-    ∷ record { what = "97: a, b, c, z and t at 2"; is = numbers (at2 (filedWire 0) ∷ at2 (filedWire 1) ∷ at2 (filedWire 2) ∷ at2 filedZ ∷ at2 (tPart 2 filedTranscript) ∷ []); should = numbers (0 ∷ 50 ∷ 3 ∷ 15 ∷ 44 ∷ []) }
+    ∷ record { what = "97: a, b, c, z and t at 2"; is = numbers (at2 (filedWire 0) ∷ at2 (filedWire 1) ∷ at2 (filedWire 2) ∷ at2 filedZ ∷ at2 (tPart 0 2 filedTranscript) ∷ []); should = numbers (0 ∷ 50 ∷ 3 ∷ 15 ∷ 44 ∷ []) }
     ∷ record { what = "97: z at w × 2"; is = number (at2 (dilate (root 97 2) filedZ)); should = number 56 }
     ∷ record { what = "97: selectors and wired tags at 2"; is = numbers (tab (λ s. at2 (filedPre s)) 8); should = numbers (48 ∷ 48 ∷ 96 ∷ 50 ∷ 0 ∷ 4 ∷ 92 ∷ 11 ∷ []) }
     ∷ record { what = "97: gate at 2"; is = number (at2 (gatePart 97 filedPre filedWire (interpolation 97 2 publics))); should = number 69 }
@@ -209,9 +209,9 @@ table =
     ∷ record { what = "97: L at 2"; is = number (at2 (polyL 97 2)); should = number 50 }
     ∷ record { what = "97: (z - 1) × L at 2"; is = number (at2 (startPart 97 2 filedZ)); should = number 21 }
     ∷ record { what = "97: F(2)"; is = number (at2 (polyF 97 2 filedPre filedWire (interpolation 97 2 publics) filedZ 1 1 2)); should = number 35 }
-    ∷ record { what = "97: the verdict at 2"; is = atPoint (pointVerdict 97 2 (prepared 97 2 filed) publics filedTranscript 1 1 2 2); should = atPoint accept }
+    ∷ record { what = "97: the verdict at 2"; is = atPoint (pointVerdict 0 97 2 (prepared 97 2 filed) publics filedTranscript 1 1 2 2); should = atPoint accept }
     ∷ []
 
 pub by-hand : All (λ r. r .is ≡ r .should) table
-unfolding tab gathered occurs different powF first inverse reduced quotientVanishing remainderVanishing generator root point multiplier tag evaluation interpolation strided passed lentBy laidBy byRows permutation rowN rowD runningZ polyN polyD polyL gatePart stepPart startPart polyF quotient laid prepared rowsFrom pointVerdict gate zeroFactor tagged lostGammas polynomialOf evaluationsOf mixtureOf
+unfolding tab gathered occurs different powF first inverse reduced quotientVanishing remainderVanishing generator root point multiplier tag evaluation interpolation strided passed lentBy laidBy byRows permutation rowN rowD runningZ polyN polyD polyL gatePart stepPart startPart polyF quotient laid prepared blinded rowsFrom pointVerdict gate zeroFactor tagged lostGammas polynomialOf evaluationsOf mixtureOf
 by-hand = refl & refl & refl & refl & refl & refl & refl & refl & refl & refl & refl & refl & refl & refl & refl & refl & refl & refl & refl & refl & refl & refl & refl & refl & refl & refl & refl & refl & refl & refl & refl & refl & refl & refl & refl & refl & refl & refl & refl & refl & refl & refl & refl & refl & refl & refl & refl & refl & refl & refl & refl & refl & refl & refl & refl & refl & refl & refl & refl & refl & refl & refl & refl & refl & refl & refl & refl & refl & refl & refl & refl & refl & refl & refl & refl & refl & refl & refl & refl & refl & refl & refl & refl & refl & refl & refl & refl & refl & refl & refl & refl & refl & refl & refl & refl & tt
