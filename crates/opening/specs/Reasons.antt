@@ -1,7 +1,7 @@
 -- The reasons for turning down `open` and `check_opening`, in order: 2, 3 and 6, then those of the list, 12 and 13, then 7.
 --
--- openingDue e n k     the lengths due, e being 1 where the transcript is blinded, else 0, and k being the list's: prepared circuit, transcript, list (of any length), evaluations, opening polynomial,
---                      challenges, scratch
+-- openingDue e n k     the lengths due, e being 1 where the transcript is blinded, else 0, and k the list's: prepared circuit, transcript, list (of any
+--                      length), evaluations, opening polynomial, challenges, scratch
 -- badList list         12: the list is empty, or longer than there are polynomials by number
 -- badNumber list       13: a number in it is no polynomial's; detail: the first such place in the list
 -- listReasons list     12 and 13

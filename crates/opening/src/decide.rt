@@ -7,8 +7,8 @@ ghost use Rattle.field.specs.Reasons.{answerOf, badElement};
 ghost use Rattle.opening.specs.Reasons.{openingDue, listReasons, lentListReasons, openingReasons};
 use field::Answer;
 
-// The lengths due, in the order in which the buffers are counted, for a list of k numbers, e being 1 where the transcript is blinded, else 0: prepared circuit, transcript, list, evaluations,
-// opening polynomial, challenges, scratch.
+// The lengths due, in the order in which the buffers are counted, for a list of k numbers, e being 1 where the transcript is blinded, else 0:
+// prepared circuit, transcript, list, evaluations, opening polynomial, challenges, scratch.
 fn lengths_due(e: usize, n: usize, k: usize) -> [usize; 7]
     requires { ⌜ (e ≤ 1) × (n < 4294967296) ⌝ }
     ensures { λ r. ⌜ r ≡ openingDue e n k ⌝ }

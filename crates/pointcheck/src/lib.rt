@@ -50,7 +50,8 @@ fn work(
     Judged::Reject
 }
 
-// Accept if F(zeta) = t(zeta) × (zeta^n - 1), else reject; or why the call is turned down. The transcript may be blinded: its length decides. The challenges are beta, gamma, alpha, zeta.
+// Accept if F(zeta) = t(zeta) × (zeta^n - 1), else reject; or why the call is turned down. The transcript may be blinded: its length decides.
+// The challenges are beta, gamma, alpha, zeta.
 pub fn check_point(
     p: u32,
     n: u32,

@@ -3,11 +3,13 @@
 -- THE STATEMENT
 -- RowsPass e            the pair (beta, gamma) is one for which some answer of `check_rows`, lent the wires' witness and the row values of some z, is Pass
 -- PointAccepts e        the zeta is one for which some answer of `check_point`, lent the prepared circuit and the transcript, is Accept
--- AnswersCounted e      what the public inputs bind, how few pairs, alphas and zetas there are for a cheat, and that an honest witness gets Pass and Accept, whatever blinds it
+-- AnswersCounted e      what the public inputs bind, how few pairs, alphas and zetas there are for a cheat, and that an honest witness gets
+--                       Pass and Accept, whatever blinds it
 -- THE THEOREM
 -- answers-counted       AnswersCounted holds for e = 0 and e = 1, every admissible p and n, and every circuit and public inputs that are lent rightly
 --
--- The number e is 1 where the transcript is blinded, and 0 where it is not: wires have n + 2e elements, z n + 3e and t 3n - 3 + 9e. The transcript's length tells `check_point` which.
+-- The number e is 1 where the transcript is blinded, and 0 where it is not: wires have n + 2e elements, z n + 3e and t 3n - 3 + 9e. The transcript's
+-- length tells `check_point` which.
 -- A call's answer r is any that keeps the call's promise: ChecksRows or PointChecks. `AtMost K P` says that at most K things satisfy P.
 -- Assumes nothing.
 use mathlib.Core.Path.{_≡_, refl, sym, _∙_}
@@ -30,7 +32,7 @@ use Rattle.field.specs.declared.Answer.{Answer}
 use Rattle.transform.specs.Transform.{valueAt, evaluation}
 use Rattle.circuit.specs.Circuit.{Constraints, position, Satisfies, lentConstraints, lentPublic, lentWitness, laidWitness}
 use Rattle.circuit.specs.Witness.{lent-laid, laid-elements, lent-below}
-use Rattle.circuit.specs.Buffers.{witnessLength, wireLength, zLength, quotientLength, transcriptLength, workLength, blindedBy}
+use Rattle.circuit.specs.Buffers.{witnessLength, wireLength, zLength, quotientLength, workLength, blindedBy}
 use Rattle.circuit.specs.Parts.{blinded-of}
 use Rattle.circuit.specs.Reasons.{rowsReasons}
 use Rattle.circuit.specs.RightlyLent.{RightCircuit, rows-taken, point-taken}
@@ -95,7 +97,8 @@ pub record AnswersCounted (e p n l : ℕ) (selectors labels publics : List ℕ) 
       → (beta gamma : ℕ) → beta < p → gamma < p → zeroFactor p n (lentConstraints n selectors labels) (lentWitness n witness) beta gamma ≡ n
       → (z : List ℕ) × (zRows p n (lentConstraints n selectors labels) (lentWitness n witness) beta gamma ≡ some z)
       × ((r : RowAnswer) → ChecksRows p n l selectors labels witness publics z (beta ∷ gamma ∷ []) r → r .verdict ≡ Pass)
-  -- the same witness, and any numbers b that blind it: there is a transcript that the prover lays, and the point check, lent it, answers Accept, for every alpha and zeta
+  -- the same witness, and any numbers b that blind it: there is a transcript that the prover lays, and the point check, lent it, answers Accept,
+  -- for every alpha and zeta
   pub honest-point : (witness : List ℕ)
       → Satisfies p n (lentConstraints n selectors labels) (lentPublic publics) (lentWitness n witness)
       → (beta gamma : ℕ) → beta < p → gamma < p → zeroFactor p n (lentConstraints n selectors labels) (lentWitness n witness) beta gamma ≡ n
