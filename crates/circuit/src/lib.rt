@@ -53,6 +53,7 @@ pub use tags::factor_of;
 pub use tags::multiplier_of;
 pub use tags::own_tags;
 pub use tags::wired_tags;
+pub use witness::column_values;
 pub use witness::wire_value;
 pub use witness::wire_values;
 

@@ -25,3 +25,15 @@ pub fn wire_values(n: usize, witness: &[u32], out: &mut [u32])
         k += 1;
     }
 }
+
+// The wire values of a column, one for each row.
+pub fn column_values(n: usize, witness: &[u32], column: usize, out: &mut [u32])
+    requires { ⌜ (n ≤ 1024) × (column < 3) × (length (now witness) ≡ witnessLength n) × (length (now out) ≡ n) ⌝ }
+    ensures { λ _. ⌜ now (out .exit) ≡ tab (λ i. lentWitness n (now (witness .entry)) (position n column i)) n ⌝ }
+{
+    let mut i = 0;
+    while i < out.len() {
+        out[i] = wire_value(n, witness, column, i);
+        i += 1;
+    }
+}
