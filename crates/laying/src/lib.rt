@@ -82,7 +82,18 @@ fn lay_wires(
     let mut at = 0;
     while column < 3 {
         let end = at + k;
-        lay_wire(e, p, n, powers, labels, witness, blinders, column, &mut out[at..end], spare);
+        lay_wire(
+            e,
+            p,
+            n,
+            powers,
+            labels,
+            witness,
+            blinders,
+            column,
+            &mut out[at..end],
+            spare,
+        );
         at = end;
         column += 1;
     }
@@ -130,7 +141,17 @@ fn lay_z(
     let m = n as usize;
     let k = 3 * e;
     let r = blinding::z_blinder(e, blinders);
-    lay_grand(p, n, powers, labels, witness, beta, gamma, &mut out[..m], spare);
+    lay_grand(
+        p,
+        n,
+        powers,
+        labels,
+        witness,
+        beta,
+        gamma,
+        &mut out[..m],
+        spare,
+    );
     blinding::blind(p, m, &r, k, out);
 }
 
@@ -153,7 +174,17 @@ pub fn lay_rows(
     ensures { λ _. ⌜ ((selectors : List ℕ) → laidRows e p n (lentConstraints n selectors (now (labels .entry))) (lentWitness n (now (witness .entry))) (now (blinders .entry)) beta gamma ≡ some (now (out .exit))) ⌝ }
 {
     let k = circuit::z_start(e, n as usize);
-    lay_wires(e, p, n, powers, labels, witness, blinders, &mut out[..k], spare);
+    lay_wires(
+        e,
+        p,
+        n,
+        powers,
+        labels,
+        witness,
+        blinders,
+        &mut out[..k],
+        spare,
+    );
     lay_z(
         e,
         p,

@@ -14,8 +14,8 @@ use Rattle.laying.proofs.lay_rows.Statement.{statement}
 use Rattle.laying.proofs.lay_rows.Tie as tie
 
 -- the wires end within the words
-fits : (c : tie.After-z-start) → c .z-start .result ≤ length (c .before .before .before .before .before .before .args .out .now)
-fits c = omega (arith, c .z-start .ensures, c .before .before .before .before .before .before .pre .1 .0)
+fits : (c : tie.After-z-start) → c .z-start .result ≤ length (c .before .before .before .before .before .before .before .args .out .now)
+fits c = omega (arith, c .z-start .ensures, c .before .before .before .before .before .before .before .pre .1 .0)
 
 z-start-requires : tie.Need-z-start-requires
 z-start-requires c κs = search needs
@@ -28,8 +28,8 @@ slice-aggregate-lay-wires c = sym (length-take-le _ _ (fits (c .before)))
 
 lay-wires-requires : tie.Need-lay-wires-requires
 lay-wires-requires c κs =
-    let s = c .before .before .before .before .before .before .before .before in
-    (s .pre .0 .0, (length-take-le _ _ (fits (c .before .before)) ∙ c .before .before .z-start .ensures, s .pre .1 .1))
+    let s = c .before .before .before .before .before .before .before .before .before in
+    ((s .pre .0 .0, s .pre .0 .2), (length-take-le _ _ (fits (c .before .before)) ∙ c .before .before .z-start .ensures, s .pre .1 .1))
 
 mul-lay-z : tie.Need-mul-lay-z
 mul-lay-z c = search needs
@@ -46,12 +46,12 @@ part-lay-z-end c = search needs
 lay-z-requires : tie.Need-lay-z-requires
 lay-z-requires c κs =
     let d = c .before .before .before .before .before .before .before .before .before in
-    let s = d .before .before .before .before .before .before in
+    let s = d .before .before .before .before .before .before .before in
     let w = c .before .before .before .before .before .before .lay-wires in (
       s .pre .0,
       (
-        rest-length (d .z-start .result) (s .args .out .now) (w .last .1 .1 .1 .1 .1 .0) (fits d) (w .kept .1 .1 .1 .1 .1 .0) ∙ omega (arith, s .pre .1 .0, d .z-start .ensures),
-        w .kept .1 .1 .1 .1 .1 .1 .0 ∙ s .pre .1 .1,
+        rest-length (d .z-start .result) (s .args .out .now) (w .last .1 .1 .1 .1 .1 .1 .1 .0) (fits d) (w .kept .1 .1 .1 .1 .1 .1 .1 .0) ∙ omega (arith, s .pre .1 .0, d .z-start .ensures),
+        w .kept .1 .1 .1 .1 .1 .1 .1 .1 .0 ∙ s .pre .1 .1,
       ),
     )
 
@@ -64,12 +64,12 @@ same-length-2 c = search needs
 returns : tie.Need-returns
 returns c selectors =
     let d = c .before .before .before .before .before .before .before .before .before .before .before .before .before .before in
-    let a = d .before .before .before .before .before .before .args in
+    let a = d .before .before .before .before .before .before .before .args in
     let w = c .before .before .before .before .before .before .before .before .before .before .before .lay-wires in
     let z = c .before .before .before .before .lay-z in
-    wires-laid (a .p) (a .n) (lentWitness (a .n) (a .witness .now)) (lentConstraints (a .n) selectors (a .labels .now)) (a .beta) (a .gamma) _ (z .ensures selectors)
+    wires-laid (a .e) (a .p) (a .n) (lentWitness (a .n) (a .witness .now)) (lentConstraints (a .n) selectors (a .labels .now)) (a .blinders .now) (a .beta) (a .gamma) _ (z .ensures selectors)
     ∙ ap {B = Option (List ℕ)} some
-    (sym (both-parts (d .z-start .result) (a .out .now) (w .last .1 .1 .1 .1 .1 .0) (fits d) (w .kept .1 .1 .1 .1 .1 .0) (z .last .1 .1 .1 .1 .1 .1 .1 .0) _ _ (w .ensures) refl))
+    (sym (both-parts (d .z-start .result) (a .out .now) (w .last .1 .1 .1 .1 .1 .1 .1 .0) (fits d) (w .kept .1 .1 .1 .1 .1 .1 .1 .0) (z .last .1 .1 .1 .1 .1 .1 .1 .1 .1 .0) _ _ (w .ensures) refl))
 
 pub lay-rows-spec : {M : Type 1} → statement M
 lay-rows-spec =
