@@ -1,7 +1,7 @@
 -- Blocks of the table: that they fit, and what is laid out of them.
 --
 -- columns-fit, rows-fit   a block fits where its lines and fields do
--- selectors-fit, labels-fit, witness-fit, publics-fit, challenges-fit   the blocks that are lent
+-- selectors-fit, labels-fit, witness-fit, publics-fit, challenges-fit, blinders-fit   the blocks that are lent
 -- count-room       a block that is a known one has as many numbers as that has
 -- laid-block       what is laid out of it is what is laid out of that one
 -- stopped          a table of numbers that stop at `count` is those numbers, and zeros behind them
@@ -20,9 +20,9 @@ use borrow.Author.Tests.{lt-ltb, le-ltb}
 use Rattle.algebra.specs.Lists.{tab}
 use Rattle.algebra.specs.Tables.{tab-ext, tab-add, tab-const}
 use Rattle.circuit.specs.Buffers.{selectorCount, selectorsLength, labelsLength, witnessLength}
-use Rattle.sheet.specs.Sheet.{challengeCount, labelField, padded}
+use Rattle.sheet.specs.Sheet.{challengeCount, blinderCount, labelField, plainLines, padded}
 use Rattle.sheet.specs.declared.blocks.Block.{Block}
-use Rattle.sheet.specs.Table.{lineWords, tableLines, tableLength, tablePlace, columnBlock, rowBlock, selectorsBlock, labelsBlock, witnessBlock, publicsBlock, challengesBlock, inTable, Fits, Full}
+use Rattle.sheet.specs.Table.{lineWords, tableLines, tableLength, tablePlace, columnBlock, rowBlock, selectorsBlock, labelsBlock, witnessBlock, publicsBlock, challengesBlock, blindersBlock, inTable, Fits, Full}
 
 pub columns-fit : (t : List ℕ) (n line field c count : ℕ) → 0 < n → line + n ≤ tableLines → length t ≡ tableLength → field + c ≤ lineWords → count ≤ c * n
     → Fits t (columnBlock n line field count)
@@ -61,6 +61,10 @@ module _ (n l : ℕ) (t : List ℕ) (full : Full n l t) {B : Block} where
 
   pub challenges-fit : B ≡ challengesBlock n l → Fits t B
   challenges-fit e = rw e (rows-fit t challengeCount 1 (n + n + l + 1) challengeCount (omega arith) (omega arith) (omega arith) (full .long) (omega arith))
+
+  pub blinders-fit : (e : ℕ) → e ≤ 1 → B ≡ blindersBlock e n l → Fits t B
+  blinders-fit e most is =
+      rw is (rows-fit t blinderCount 1 (plainLines n l) (blinderCount * e) (omega arith) (omega arith) (omega arith) (full .long) (omega arith))
 
 pub count-room : {B B' : Block} {m : ℕ} → B ≡ B' → B' .count ≤ m → B .count ≤ m
 count-room {B} {B'} {m} e h = rw e h

@@ -1,8 +1,8 @@
 -- The lines of a sheet: the search for the first one out of form, and the table that is filled line by line.
 --
--- isBad s n l i        line i is missing or out of form
--- bad-begins           the search for such a line, from line 1 on
--- bad-le               what it finds is at most the number of lines
+-- bad-le               what the search for a line out of form finds is at most the line up to which is searched
+-- bad-before           what is found before line m is found before a later one too
+-- bad-behind           where nothing is found before line m, the search goes on from there
 -- line-is              a line that was read where line i starts, as line i
 -- second-start         where line 1 starts
 -- next-start           where the line behind line i starts
@@ -11,7 +11,7 @@
 --
 -- Assumes nothing.
 use mathlib.Core.Path.{_≡_, refl, sym, ap, ap₂, _∙_}
-use mathlib.Core.Bool.{Bool, not}
+use mathlib.Core.Bool.{Bool, false, true≢false}
 use mathlib.Core.List.{List, _++_}
 use Prim.Native.Nat.{ℕ, _+_, _-_, _≤_, _<_}
 use native.Mathlib.Decide.{decLt}
@@ -21,24 +21,48 @@ use lib.ListN.{length, getD, take, List·getD-append}
 use lib.Seq.{length-take-le, getD-take, getD-append-add}
 use borrow.Rule.Slice.PartMut.{putMid, midOf, postOf, mid-len}
 use Rattle.algebra.specs.Lists.{tab}
-use Rattle.algebra.specs.Modular.{first}
-use Rattle.algebra.specs.Search.{first-is}
+use Rattle.algebra.specs.Search.{First, first-is}
 use Rattle.algebra.specs.Tables.{length-tab, getD-tab}
 use Rattle.text.specs.Text.{numberAt, fieldAt, isLineAt}
-use Rattle.sheet.specs.Sheet.{fieldsDue, linesDue, lineAt, numberOf, badLine}
+use Rattle.sheet.specs.Sheet.{fieldsDue, lineAt, numberOf, isBad, badFrom}
 use Rattle.sheet.specs.Table.{tablePlace, Held}
 use Rattle.sheet.specs.Due.{due-most}
 
-abbrev pub isBad : List ℕ → ℕ → ℕ → ℕ → Bool
-isBad s n l i = not (isLineAt s (lineAt s n l i) (fieldsDue n l i))
+-- what is first is so once
+once : {test : ℕ → Bool} {start count r r' : ℕ} → First test start count r → First test start count r' → r ≡ r'
+once {test} {start} {count} {r} {r'} f g = go (decLt r r') (decLt r' r)
+  where
+    go : Dec (r < r') → Dec (r' < r) → r ≡ r'
+    go (yes h) k = absurd (true≢false (sym (f .hit (omega (arith, g .high))) ∙ g .none r (f .low) h))
+    go (no h) (yes k) = absurd (true≢false (sym (g .hit (omega (arith, f .high))) ∙ f .none r' (g .low) k))
+    go (no h) (no k) = omega arith
 
-pub bad-begins : (s : List ℕ) (n l : ℕ) → badLine s n l ≡ first (isBad s n l) 1 (linesDue n l - 1)
-unfolding badLine
-bad-begins s n l = let q : n + n + l + 1 ≡ linesDue n l - 1 = omega arith in ap (first (isBad s n l) 1) q
+module _ (s : List ℕ) (n l i : ℕ) where
+  abbrev searched : (m : ℕ) → First (isBad s n l) i (m - i) (badFrom s n l i m)
+  searched m = first-is (isBad s n l) i (m - i)
 
-pub bad-le : (s : List ℕ) (n l : ℕ) → badLine s n l ≤ linesDue n l
-unfolding badLine
-bad-le s n l = omega (arith, first-is (isBad s n l) 1 (n + n + l + 1) .high)
+  pub bad-le : (m : ℕ) → i ≤ m → badFrom s n l i m ≤ m
+  bad-le m h = omega (arith, searched m .high)
+
+  pub bad-before : (m k : ℕ) → m ≤ k → badFrom s n l i m < m → badFrom s n l i k ≡ badFrom s n l i m
+  bad-before m k h g =
+      let f = searched m in
+      once (searched k) record { low = f .low; high = omega (arith, f .low); none = f .none; hit = λ u. f .hit (omega (arith, f .low)) }
+
+  pub bad-behind : (m k : ℕ) → i ≤ m → m ≤ k → badFrom s n l i m ≡ m → badFrom s n l i k ≡ badFrom s n l m k
+  bad-behind m k g h e =
+      let b = first-is (isBad s n l) m (k - m) in
+      once (searched k)
+      record {
+        low = omega (arith, b .low);
+        high = omega (arith, b .high);
+        none = λ j u v. at j u v (decLt j m);
+        hit = λ u. b .hit (omega arith);
+      }
+    where
+      at : (j : ℕ) → i ≤ j → j < badFrom s n l m k → Dec (j < m) → isBad s n l j ≡ false
+      at j u v (yes w) = searched m .none j u (omega arith)
+      at j u v (no w) = first-is (isBad s n l) m (k - m) .none j (omega arith) v
 
 pub line-is : (s : List ℕ) (n l i at k : ℕ) (ok : Bool) → ok ≡ isLineAt s at k → at ≡ lineAt s n l i → k ≡ fieldsDue n l i
     → ok ≡ isLineAt s (lineAt s n l i) (fieldsDue n l i)

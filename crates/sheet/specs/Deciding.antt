@@ -1,7 +1,7 @@
 -- The reasons of a sheet as the functions test them, and what is known past them.
 --
 -- tableCircuit           the reasons of the circuit, 8 and 14, read off the table
--- tableNumbers           the reasons of all its numbers
+-- tableNumbers           the reasons of all its numbers, e lines (0 or 1) being there of blinding numbers
 -- Opened s p n l at      what is known where 1 does not apply: p, n, l, and line 1 starts at `at`
 -- primeLine s            1, 2 and 16: the reasons of a new sheet's first line up to that of its prime
 -- Decides s reasons r t  what deciding by these reasons promises of its answer r and of the table t
@@ -41,14 +41,14 @@ use Rattle.circuit.specs.Reasons.{circuitReasons}
 use Rattle.circuit.specs.RightlyLent.{RightCircuit, numbers-of, circuit-of}
 use Rattle.text.specs.Text.{fieldAt}
 use Rattle.sheet.specs.declared.SheetAnswer.{SheetAnswer}
-use Rattle.sheet.specs.Sheet.{sheetRows, linesDue, sheetP, sheetN, sheetL, onSelectors, onLabels, sheetElements, badFirst, firstReasons, lineReasons, sheetNumbers, behindReasons, readReasons, readAnswer, newReasons, newAnswer}
-use Rattle.sheet.specs.Table.{Held, selectorsIn, labelsIn, tableElements}
+use Rattle.sheet.specs.Sheet.{sheetRows, sheetP, sheetN, sheetL, isBlinded, onSelectors, onLabels, sheetElements, badFirst, firstReasons, lineReasons, sheetNumbers, behindReasons, readReasons, readAnswer, newReasons, newAnswer}
+use Rattle.sheet.specs.Table.{Tabled, selectorsIn, labelsIn, tableElements}
 
 abbrev pub tableCircuit : ℕ → ℕ → List ℕ → List Reason
 tableCircuit n l t = circuitReasons n l (tab (selectorsIn t n) (selectorsLength n)) (tab (labelsIn t n) (labelsLength n))
 
-abbrev pub tableNumbers : ℕ → ℕ → ℕ → List ℕ → List Reason
-tableNumbers p n l t = badElement p (tableElements n l t) ∷ tableCircuit n l t
+abbrev pub tableNumbers : (e p n l : ℕ) (t : List ℕ) → List Reason
+tableNumbers e p n l t = badElement p (tableElements e n l t) ∷ tableCircuit n l t
 
 pub record Opened (s : List ℕ) (p n l at : ℕ) : Type 0 where
   pub short : length s ≤ 65536
@@ -66,7 +66,8 @@ pub record Decides (s : List ℕ) (reasons : List Reason) (r : SheetAnswer) (t :
   pub p-is : r .p ≡ cond (isAccepted (r .answer)) (sheetP s) 0
   pub n-is : r .n ≡ cond (isAccepted (r .answer)) (sheetN s) 0
   pub l-is : r .l ≡ cond (isAccepted (r .answer)) (sheetL s) 0
-  pub held : r .answer .number ≡ 0 → Held s (sheetN s) (sheetL s) (linesDue (sheetN s) (sheetL s)) t
+  pub blinded-is : r .blinded ≡ cond (isAccepted (r .answer)) (isBlinded s (sheetN s) (sheetL s)) false
+  pub tabled : r .answer .number ≡ 0 → Tabled s (sheetN s) (sheetL s) (r .blinded) t
 
 pub found : {s : List ℕ} {reasons : List Reason} {r : SheetAnswer} {t : List ℕ} → Decides s reasons r t → r .answer .number ≡ 0
     → (r .p ≡ sheetP s) × (r .n ≡ sheetN s) × (r .l ≡ sheetL s)

@@ -1,5 +1,5 @@
--- What is written is read back: the sheet written from numbers below 2^32, as many as are lent for its n and l, is a sheet in form, and its
--- reading gives those numbers.
+-- What is written is read back: the sheet written from numbers below 2^32, as many as are lent for its n and l, is a sheet in form with no line of
+-- blinding numbers, and its reading gives those numbers.
 --
 -- SheetBack            what is read off the text s
 -- sheet-back           THE THEOREM, for the text of the numbers
@@ -29,18 +29,19 @@ use Rattle.circuit.specs.Reasons.{unboundRow}
 use Rattle.circuit.specs.Witness.{position-below, place-position}
 use Rattle.circuit.specs.RightlyLent.{RightCircuit, selectors-right, labels-right, at-none, bound}
 use Rattle.text.specs.Text.{isLineAt, lineOf}
-use Rattle.sheet.specs.Sheet.{sheetRows, challengeCount, labelField, fieldsDue, linesDue, lineAt, numberOf, sheetP, sheetN, sheetL, badLine, isExtra, onSelectors, onLabels, onWitness, onPublics, onChallenges, sheetElements, readAnswer}
+use Rattle.sheet.specs.Sheet.{sheetRows, challengeCount, labelField, fieldsDue, plainLines, linesDue, lineAt, numberOf, sheetP, sheetN, sheetL, isBlinded, badLine, isExtra, onSelectors, onLabels, onWitness, onPublics, onChallenges, blindersOn, sheetElements, readAnswer}
 use Rattle.sheet.specs.Written.{column, circuitLine, witnessLine, publicLine, sheetText, Small, Right}
-use Rattle.sheet.specs.Due.{picked, some-due}
+use Rattle.sheet.specs.Due.{picked}
 use Rattle.sheet.specs.Fits.{circuit-long}
-use Rattle.sheet.specs.LaidLines.{laid-split, laid-same, laid-one, in-form, reads, no-bad, no-extra}
+use Rattle.sheet.specs.LaidLines.{laid-split, laid-same, laid-one, in-form, reads, no-blinders, no-bad, no-extra}
 
 pub record SheetBack (s : List ℕ) (p n l : ℕ) (selectors labels witness publics challenges : List ℕ) : Type 0 where
   pub in-form : isLineAt s 0 3 ≡ true
   pub p-is : sheetP s ≡ p
   pub n-is : sheetN s ≡ n
   pub l-is : sheetL s ≡ l
-  pub none-bad : badLine s n l ≡ linesDue n l
+  pub none-blinded : isBlinded s n l ≡ false
+  pub none-bad : badLine s n l ≡ plainLines n l
   pub none-extra : isExtra s n l ≡ false
   pub selectors-are : tab (onSelectors s n l) (selectorsLength n) ≡ selectors
   pub labels-are : tab (onLabels s n l) (labelsLength n) ≡ labels
@@ -94,9 +95,9 @@ module _ (p n l : ℕ) (selectors labels witness publics challenges : List ℕ) 
       rw (ne-eqb i 0 (λ u. omega arith), lt-leb i n (omega arith), lt-leb i (n + n) (omega arith), lt-leb i (n + n + l) (omega arith))
 
   -- the text is the lines, laid end to end
-  text-lines : sheetText p n l selectors labels witness publics challenges ≡ laid (λ i. lineOf (sheetLine i)) (linesDue n l)
+  text-lines : sheetText p n l selectors labels witness publics challenges ≡ laid (λ i. lineOf (sheetLine i)) (plainLines n l)
   text-lines =
-      let q : linesDue n l ≡ 1 + (n + (n + (l + 1))) = omega arith in
+      let q : plainLines n l ≡ 1 + (n + (n + (l + 1))) = omega arith in
       sym (ap (laid f) q
       ∙ laid-split f 1 (n + (n + (l + 1)))
       ∙ ap₂ (λ (a b : List ℕ). a ++ b) (laid-one f ∙ ap lineOf line-first)
@@ -124,21 +125,22 @@ module _ (p n l : ℕ) (selectors labels witness publics challenges : List ℕ) 
         (all-tab (λ (x : ℕ). x < 4294967296) _ 3 (λ c h. word-small witness (witnessPlace n (position n c (i - (n + 1)))) (right .witness-small)))
         (picked Small (leb i (n + n + l)) (word-small publics (i - (n + n + 1)) (right .publics-small), tt) (right .challenges-small))))
 
-    line-long : (i : ℕ) → length (sheetLine i) ≡ fieldsDue n l i
+    line-long : (i : ℕ) → i < plainLines n l → length (sheetLine i) ≡ fieldsDue n l i
     unfolding sheetLine fieldsDue
-    line-long i =
-        length-pick (eqb i 0) _ _ _ _ refl
+    line-long i h =
+        rw (le-leb i (n + n + l + 1) (omega arith))
+        (length-pick (eqb i 0) _ _ _ _ refl
         (length-pick (leb i n) _ _ _ _ (circuit-long n selectors labels (i - 1))
         (length-pick (leb i (n + n)) _ _ _ _ (length-tab _ 3)
-        (length-pick (leb i (n + n + l)) _ _ _ _ refl (right .challenges-long))))
+        (length-pick (leb i (n + n + l)) _ _ _ _ refl (right .challenges-long)))))
 
     -- number j of line i, in the text as lines
     abbrev lines : List ℕ
-    lines = laid (λ i. lineOf (sheetLine i)) (linesDue n l)
+    lines = laid (λ i. lineOf (sheetLine i)) (plainLines n l)
 
-    number : (i j : ℕ) (vs : List ℕ) → i < linesDue n l → sheetLine i ≡ vs → j < length vs → numberOf lines n l i j ≡ getD vs j 0
+    number : (i j : ℕ) (vs : List ℕ) → i < plainLines n l → sheetLine i ≡ vs → j < length vs → numberOf lines n l i j ≡ getD vs j 0
     number i j vs h e g =
-        reads n l sheetLine line-small line-long (some-due n l) (linesDue n l) i j h (omega (arith, line-long i, ap length e))
+        reads n l (plainLines n l) sheetLine line-small line-long i j h (omega (arith, line-long i h, ap length e))
         ∙ ap (λ (xs : List ℕ). getD xs j 0) e
 
     back-column : (xs : List ℕ) (k : ℕ) → column n xs (k % n) (k / n) ≡ getD xs k 0
@@ -202,7 +204,7 @@ module _ (p n l : ℕ) (selectors labels witness publics challenges : List ℕ) 
 
     first-line : isLineAt lines 0 3 ≡ true
     unfolding lineAt fieldsDue
-    first-line = in-form n l sheetLine line-small line-long (some-due n l) (linesDue n l) 0 (omega arith)
+    first-line = in-form n l (plainLines n l) sheetLine line-small line-long 0 (omega arith)
 
     first-word : (j : ℕ) → j < 3 → numberOf lines n l 0 j ≡ getD (p ∷ n ∷ l ∷ []) j 0
     first-word j h = number 0 j (p ∷ n ∷ l ∷ []) (omega arith) line-first (omega arith)
@@ -215,8 +217,9 @@ module _ (p n l : ℕ) (selectors labels witness publics challenges : List ℕ) 
           p-is = first-word 0 (omega arith);
           n-is = first-word 1 (omega arith);
           l-is = first-word 2 (omega arith);
-          none-bad = no-bad n l sheetLine line-small line-long (some-due n l);
-          none-extra = no-extra n l sheetLine line-small line-long (some-due n l);
+          none-blinded = no-blinders n l (plainLines n l) sheetLine line-small line-long refl;
+          none-bad = no-bad n l (plainLines n l) sheetLine line-small line-long refl;
+          none-extra = no-extra n l (plainLines n l) sheetLine line-small line-long refl;
           selectors-are = list-back (onSelectors lines n l) selectors (selectorsLength n) (right .selectors-long) selectors-back;
           labels-are = list-back (onLabels lines n l) labels (labelsLength n) (right .labels-long) labels-back;
           witness-is = list-back (onWitness lines n l) witness (witnessLength n) (right .witness-long) witness-back;
@@ -241,12 +244,16 @@ pub record Admitted (s : List ℕ) (p n l : ℕ) (selectors labels witness publi
 
 module _ (s : List ℕ) (p n l : ℕ) (selectors labels witness publics challenges : List ℕ) (back : SheetBack s p n l selectors labels witness publics challenges)
     (taken : Admitted s p n l selectors labels witness publics challenges) where
+  no-blinding : blindersOn s n l ≡ []
+  unfolding tab
+  no-blinding = rw (back .none-blinded)
+
   elements-below : All (λ (x : ℕ). x < p) (sheetElements s n l)
   elements-below =
-      rw (back .selectors-are, back .witness-is, back .publics-are, back .challenges-are)
-      (all-append (λ (x : ℕ). x < p) selectors (witness ++ (publics ++ challenges)) (selectors-right (taken .circuit-right) .below)
-      (all-append (λ (x : ℕ). x < p) witness (publics ++ challenges) (taken .witness-below)
-      (all-append (λ (x : ℕ). x < p) publics challenges (taken .publics-below) (taken .challenges-below))))
+      rw (back .selectors-are, back .witness-is, back .publics-are, back .challenges-are, no-blinding)
+      (all-append (λ (x : ℕ). x < p) selectors (witness ++ (publics ++ (challenges ++ []))) (selectors-right (taken .circuit-right) .below)
+      (all-append (λ (x : ℕ). x < p) witness (publics ++ (challenges ++ [])) (taken .witness-below)
+      (all-append (λ (x : ℕ). x < p) publics (challenges ++ []) (taken .publics-below) (all-append (λ (x : ℕ). x < p) challenges [] (taken .challenges-below) tt))))
 
   lent-labels-below : All (λ (x : ℕ). x < 3 * n) (tab (onLabels s n l) (labelsLength n))
   lent-labels-below = rw (back .labels-are) (labels-right (taken .circuit-right) .below)
@@ -265,9 +272,10 @@ module _ (s : List ℕ) (p n l : ℕ) (selectors labels witness publics challeng
         le-ltb sheetRows n (taken .few),
         le-ltb n l (taken .circuit-right .circuit .publics-few),
         back .none-bad,
-        le-ltb (linesDue n l) (linesDue n l) (omega arith),
         back .none-extra,
         elements-none p (sheetElements s n l) elements-below,
         elements-none (3 * n) (tab (onLabels s n l) (labelsLength n)) lent-labels-below,
         none-unbound,
+        back .none-blinded,
+        le-ltb (plainLines n l) (linesDue 0 n l) (omega arith),
       ))

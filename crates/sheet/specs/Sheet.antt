@@ -2,20 +2,29 @@
 --
 -- sheetRows            the greatest number of rows on a sheet; the lent buffers have the lengths that so many rows need
 -- challengeCount       the challenges on a sheet
+-- blinderCount         the blinding numbers on a sheet that has a line of them
+-- drawnCount           the length of the buffer that both are laid in
 -- labelField           the fields before the labels on a gate line: its selectors
 -- gateFields           the fields of a gate line: those, and three labels
 -- LINES
--- fieldsDue n l i      how many numbers line i has: 3 on the first, then those of n gate lines, n lines of 3, l of 1, and one of the challenges
--- linesDue n l         how many lines there are
+-- fieldsDue n l i      how many numbers line i has: 3 on the first, then those of n gate lines, n lines of 3, l of 1, one of the challenges, and one of the blinding numbers
+-- plainLines n l       how many lines there are up to that of the challenges
+-- linesDue e n l       how many lines there are, with e lines (0 or 1) of blinding numbers
 -- lineAt s n l i       where line i starts
 -- numberOf s n l i j   number j of line i
 -- sheetP, sheetN, sheetL   p, n and l: the numbers of the first line
--- badLine s n l        the lowest line from 1 on that is missing or out of form; linesDue where there is none
+-- isBlinded s n l      something stands behind the line of the challenges (document 02, request 9): it is the line of the blinding numbers
+-- sheetBlinded s n l   the same as a number: how many such lines the sheet has
+-- isBad s n l i        line i is missing or out of form
+-- badFrom s n l i m    the lowest such line from line i on; m where there is none before line m
+-- badLine s n l        the lowest from line 1 on; the number of lines due where there is none
 -- isExtra s n l        something stands behind the last line that is due
 -- NUMBERS AS THEY ARE LENT
 -- onPosition s n l k   the wire value of position k
--- onSelectors, onLabels, onWitnessWith L, onPublics, onChallenges   number k of each buffer; the witness is lent by the layout L
+-- onSelectors, onLabels, onWitnessWith L, onPublics, onChallenges, onBlinders   number k of each kind; the witness is lent by the layout L
+-- blindersOn s n l     the blinding numbers of the sheet: none where their line is absent
 -- padded m f count     count numbers, and zeros behind them up to m
+-- drawnOn s n l        challenges and blinding numbers as they are laid in one buffer, zeros where the line of the latter is absent
 -- REASONS
 -- tooLong s            the sheet has more than 65,536 bytes
 -- sheetElementsWith L s n l   the elements in the order of 7
@@ -37,7 +46,7 @@
 -- Assumes nothing.
 use mathlib.Core.Bool.{Bool, not, cond, _||_}
 use mathlib.Core.List.{List, [], _∷_, _++_}
-use Prim.Native.Nat.{ℕ, zero, suc, _+_, _-_, _/_, _%_}
+use Prim.Native.Nat.{ℕ, zero, suc, _+_, _*_, _-_, _/_, _%_}
 use lib.Dec.{eqb, leb, ltb}
 use lib.ListN.{length, replicate}
 use Rattle.algebra.specs.Lists.{tab}
@@ -55,6 +64,12 @@ sheetRows = 256
 abbrev pub challengeCount : ℕ
 challengeCount = 4
 
+abbrev pub blinderCount : ℕ
+blinderCount = 9
+
+abbrev pub drawnCount : ℕ
+drawnCount = challengeCount + blinderCount
+
 abbrev pub labelField : ℕ
 labelField = selectorCount
 
@@ -65,10 +80,14 @@ gateFields = labelField + 3
 
 unfoldable pub fieldsDue : ℕ → ℕ → ℕ → ℕ
 fieldsDue n l i =
-    cond (eqb i 0) 3 (cond (leb i n) gateFields (cond (leb i (n + n)) 3 (cond (leb i (n + n + l)) 1 challengeCount)))
+    cond (eqb i 0) 3
+    (cond (leb i n) gateFields (cond (leb i (n + n)) 3 (cond (leb i (n + n + l)) 1 (cond (leb i (n + n + l + 1)) challengeCount blinderCount))))
 
-abbrev pub linesDue : ℕ → ℕ → ℕ
-linesDue n l = n + n + l + 2
+abbrev pub plainLines : ℕ → ℕ → ℕ
+plainLines n l = n + n + l + 2
+
+abbrev pub linesDue : ℕ → ℕ → ℕ → ℕ
+linesDue e n l = plainLines n l + e
 
 unfoldable pub lineAt : List ℕ → ℕ → ℕ → ℕ → ℕ
 lineAt s n l zero = 0
@@ -87,11 +106,23 @@ sheetN s = numberAt s (fieldAt s 0 1)
 abbrev pub sheetL : List ℕ → ℕ
 sheetL s = numberAt s (fieldAt s 0 2)
 
+unfoldable pub isBlinded : List ℕ → ℕ → ℕ → Bool
+isBlinded s n l = ltb (lineAt s n l (plainLines n l)) (length s)
+
+abbrev pub sheetBlinded : List ℕ → ℕ → ℕ → ℕ
+sheetBlinded s n l = cond (isBlinded s n l) 1 0
+
+abbrev pub isBad : List ℕ → ℕ → ℕ → ℕ → Bool
+isBad s n l i = not (isLineAt s (lineAt s n l i) (fieldsDue n l i))
+
+abbrev pub badFrom : (s : List ℕ) (n l i m : ℕ) → ℕ
+badFrom s n l i m = first (isBad s n l) i (m - i)
+
 unfoldable pub badLine : List ℕ → ℕ → ℕ → ℕ
-badLine s n l = first (λ i. not (isLineAt s (lineAt s n l i) (fieldsDue n l i))) 1 (n + n + l + 1)
+badLine s n l = badFrom s n l 1 (linesDue (sheetBlinded s n l) n l)
 
 abbrev pub isExtra : List ℕ → ℕ → ℕ → Bool
-isExtra s n l = ltb (lineAt s n l (linesDue n l)) (length s)
+isExtra s n l = ltb (lineAt s n l (linesDue (sheetBlinded s n l) n l)) (length s)
 
 -- NUMBERS AS THEY ARE LENT
 
@@ -115,18 +146,28 @@ onPublics s n l k = numberOf s n l (n + n + suc k) 0
 abbrev pub onChallenges : List ℕ → ℕ → ℕ → ℕ → ℕ
 onChallenges s n l k = numberOf s n l (n + n + l + 1) k
 
+abbrev pub onBlinders : List ℕ → ℕ → ℕ → ℕ → ℕ
+onBlinders s n l k = numberOf s n l (plainLines n l) k
+
+abbrev pub blindersOn : List ℕ → ℕ → ℕ → List ℕ
+blindersOn s n l = tab (onBlinders s n l) (blinderCount * sheetBlinded s n l)
+
 abbrev pub padded : ℕ → (ℕ → ℕ) → ℕ → List ℕ
 padded m f count = tab f count ++ replicate (m - count) 0
+
+abbrev pub drawnOn : List ℕ → ℕ → ℕ → List ℕ
+drawnOn s n l = tab (onChallenges s n l) challengeCount ++ padded blinderCount (onBlinders s n l) (blinderCount * sheetBlinded s n l)
 
 -- REASONS
 
 abbrev pub tooLong : List ℕ → Bool
 tooLong s = ltb 65536 (length s)
 
--- the elements in the order of 7: selectors, witness, public inputs, challenges
+-- the elements in the order of 7: selectors, witness, public inputs, challenges, blinding numbers
 abbrev pub sheetElementsWith : Layout → List ℕ → ℕ → ℕ → List ℕ
 sheetElementsWith L s n l =
-    tab (onSelectors s n l) (selectorsLength n) ++ (tab (onWitnessWith L s n l) (witnessLength n) ++ (tab (onPublics s n l) l ++ tab (onChallenges s n l) challengeCount))
+    tab (onSelectors s n l) (selectorsLength n)
+    ++ (tab (onWitnessWith L s n l) (witnessLength n) ++ (tab (onPublics s n l) l ++ (tab (onChallenges s n l) challengeCount ++ blindersOn s n l)))
 
 abbrev pub badFirst : List ℕ → Reason
 badFirst s = record { number = 1; detail = 0; applies = tooLong s || not (isLineAt s 0 3) }
@@ -136,12 +177,12 @@ firstReasons s = badFirst s ∷ shapeReasons (sheetP s) (sheetN s) (sheetL s) sh
 
 abbrev pub lineReasons : List ℕ → ℕ → ℕ → List Reason
 lineReasons s n l =
-    record { number = 5; detail = suc (badLine s n l); applies = ltb (badLine s n l) (linesDue n l) || isExtra s n l } ∷ []
+    record { number = 5; detail = suc (badLine s n l); applies = ltb (badLine s n l) (linesDue (sheetBlinded s n l) n l) || isExtra s n l } ∷ []
 
--- sheet, selectors, labels, witness, public inputs, challenges. The sheet has whatever length it has, so the first place never differs
+-- sheet, selectors, labels, witness, public inputs, challenges with the blinding numbers behind them. The sheet has whatever length it has, so the first place never differs
 abbrev pub sheetDue : ℕ → List ℕ
 sheetDue bytes =
-    bytes ∷ selectorsLength sheetRows ∷ labelsLength sheetRows ∷ witnessLength sheetRows ∷ sheetRows ∷ challengeCount ∷ []
+    bytes ∷ selectorsLength sheetRows ∷ labelsLength sheetRows ∷ witnessLength sheetRows ∷ sheetRows ∷ drawnCount ∷ []
 
 abbrev pub sheetNumbersWith : Layout → List ℕ → ℕ → ℕ → ℕ → List Reason
 sheetNumbersWith L s p n l =

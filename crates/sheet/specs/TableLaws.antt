@@ -1,18 +1,19 @@
 -- A table that holds all lines of a sheet has its numbers, as they are lent.
 --
 -- on-position     the wire value of a column and a row, in the witness as it is lent, is the field of that column on the line of that row
--- selectors-same, labels-same, witness-same, publics-same, challenges-same   number k of each buffer
+-- selectors-same, labels-same, witness-same, publics-same, challenges-same, blinders-same   number k of each kind
 -- elements-same, selectors-list-same, labels-list-same   the elements end to end, the selectors and the labels
+-- drawn-same      challenges and blinding numbers, as they are laid in one buffer
 -- elements-long   how many elements the table has
 -- unbound-table   selector s of row i is word s of line i + 1, so the row of a line that is no public row is the one that 14 names
 --
 -- Assumes nothing.
-use mathlib.Core.Path.{_≡_, sym, ap, ap₂, _∙_}
+use mathlib.Core.Path.{_≡_, refl, sym, ap, ap₂, _∙_}
 use mathlib.Core.List.{List, _++_}
-use Prim.Native.Nat.{ℕ, suc, _+_, _*_, _/_, _%_, _≤_, _<_}
+use Prim.Native.Nat.{ℕ, suc, _+_, _*_, _-_, _/_, _%_, _≤_, _<_}
 use native.Mathlib.Nat.{mod-lt, div-lt-iff-lt-mul, mod-eq-of-lt, div-eq-of-lt, mod-one, div-one}
 use native.Mathlib.Omega.{arith}
-use lib.ListN.{length, getD, length-append}
+use lib.ListN.{length, getD, replicate, length-append}
 use Rattle.algebra.specs.Ends.{run-room}
 use Rattle.algebra.specs.Lists.{tab}
 use Rattle.algebra.specs.Tables.{length-tab, getD-tab, tab-ext}
@@ -22,9 +23,9 @@ use Rattle.circuit.specs.Positions.{position-column, position-row}
 use Rattle.circuit.specs.Witness.{lent-laid}
 use Rattle.circuit.specs.Reasons.{unboundRow}
 use Rattle.circuit.specs.Selectors.{isPublicAt, unboundIn, unbound-same}
-use Rattle.sheet.specs.Sheet.{challengeCount, labelField, fieldsDue, linesDue, numberOf, onSelectors, onLabels, onPosition, onWitness, onPublics, onChallenges, sheetElements}
-use Rattle.sheet.specs.Due.{due-circuit, due-witness, due-publics, due-challenges}
-use Rattle.sheet.specs.Table.{lineWords, tablePlace, selectorsBlock, placeIn, Full, Held, selectorsIn, labelsIn, witnessIn, publicsIn, challengesIn, tableElements}
+use Rattle.sheet.specs.Sheet.{challengeCount, blinderCount, labelField, fieldsDue, plainLines, linesDue, numberOf, sheetBlinded, onSelectors, onLabels, onPosition, onWitness, onPublics, onChallenges, onBlinders, blindersOn, drawnOn, sheetElements}
+use Rattle.sheet.specs.Due.{due-circuit, due-witness, due-publics, due-challenges, due-blinders, blinded-most}
+use Rattle.sheet.specs.Table.{lineWords, tablePlace, selectorsBlock, placeIn, Full, HeldAll, selectorsIn, labelsIn, witnessIn, publicsIn, challengesIn, blindersIn, tableElements, tableDrawn}
 
 pub on-position : (s : List ℕ) (n l c i : ℕ) → c < 3 → i < n → lentWitness n (tab (onWitness s n l) (witnessLength n)) (position n c i) ≡ numberOf s n l (n + suc i) c
 unfolding laidBy byRows
@@ -32,7 +33,10 @@ on-position s n l c i g h =
     lent-laid n (onPosition s n l) (position n c i) (omega (arith, run-room c 3 n g))
     ∙ ap₂ (λ (r c : ℕ). numberOf s n l (n + suc r) c) (position-row n c i h) (position-column n c i h)
 
-module _ (s : List ℕ) (n l : ℕ) (t : List ℕ) (full : Full n l t) (held : Held s n l (linesDue n l) t) where
+module _ (s : List ℕ) (n l : ℕ) (t : List ℕ) (full : Full n l t) (held : HeldAll s n l t) where
+  abbrev e : ℕ
+  e = sheetBlinded s n l
+
   row : (k : ℕ) → k % n < n
   row k = mod-lt k (full .some)
 
@@ -40,7 +44,7 @@ module _ (s : List ℕ) (n l : ℕ) (t : List ℕ) (full : Full n l t) (held : H
   column k c h = div-lt-iff-lt-mul {x = k} {y = c} (full .some) .1 h
 
   -- the word at a place that is field j of line i
-  word : (place i j : ℕ) → place ≡ tablePlace i j → 0 < i → i < linesDue n l → j < fieldsDue n l i → getD t place 0 ≡ numberOf s n l i j
+  word : (place i j : ℕ) → place ≡ tablePlace i j → 0 < i → i < linesDue e n l → j < fieldsDue n l i → getD t place 0 ≡ numberOf s n l i j
   word place i j e g h f = ap (λ (m : ℕ). getD t m 0) e ∙ held .number i j g h f
 
   pub selectors-same : (k : ℕ) → k < selectorsLength n → selectorsIn t n k ≡ onSelectors s n l k
@@ -76,23 +80,42 @@ module _ (s : List ℕ) (n l : ℕ) (t : List ℕ) (full : Full n l t) (held : H
   challenges-same k h =
       let a : k % challengeCount ≡ k = mod-eq-of-lt h in
       let b : k / challengeCount ≡ 0 = div-eq-of-lt h in
-      word _ (n + n + l + 1) k (omega arith) (omega arith) (omega arith) (omega (arith, due-challenges n l (n + n + l + 1) (omega arith)))
+      word _ (n + n + l + 1) k (omega arith) (omega arith) (omega arith) (omega (arith, due-challenges n l (n + n + l + 1) refl))
+
+  -- where there are any, one line is there
+  pub blinders-same : (k : ℕ) → k < blinderCount * e → blindersIn t e n l k ≡ onBlinders s n l k
+  blinders-same k h =
+      let most = blinded-most s n l in
+      let g : k < blinderCount = omega arith in
+      let a : k % blinderCount ≡ k = mod-eq-of-lt g in
+      let b : k / blinderCount ≡ 0 = div-eq-of-lt g in
+      word _ (plainLines n l) k (omega arith) (omega arith) (omega arith) (omega (arith, due-blinders n l (plainLines n l) (omega arith)))
 
   pub selectors-list-same : tab (selectorsIn t n) (selectorsLength n) ≡ tab (onSelectors s n l) (selectorsLength n)
   selectors-list-same = tab-ext (selectorsIn t n) (onSelectors s n l) (selectorsLength n) selectors-same
 
-  pub elements-same : tableElements n l t ≡ sheetElements s n l
+  challenges-list-same : tab (challengesIn t n l) challengeCount ≡ tab (onChallenges s n l) challengeCount
+  challenges-list-same = tab-ext (challengesIn t n l) (onChallenges s n l) challengeCount challenges-same
+
+  blinders-list-same : tab (blindersIn t e n l) (blinderCount * e) ≡ blindersOn s n l
+  blinders-list-same = tab-ext (blindersIn t e n l) (onBlinders s n l) (blinderCount * e) blinders-same
+
+  pub drawn-same : tableDrawn e n l t ≡ drawnOn s n l
+  drawn-same =
+      ap₂ (λ (a b : List ℕ). a ++ (b ++ replicate (blinderCount - blinderCount * e) 0)) challenges-list-same blinders-list-same
+
+  pub elements-same : tableElements e n l t ≡ sheetElements s n l
   elements-same =
       ap₂ (λ (a b : List ℕ). a ++ b) selectors-list-same
       (ap₂ (λ (a b : List ℕ). a ++ b) (tab-ext (witnessIn t n) (onWitness s n l) (witnessLength n) witness-same)
       (ap₂ (λ (a b : List ℕ). a ++ b) (tab-ext (publicsIn t n l) (onPublics s n l) l publics-same)
-      (tab-ext (challengesIn t n l) (onChallenges s n l) challengeCount challenges-same)))
+      (ap₂ (λ (a b : List ℕ). a ++ b) challenges-list-same blinders-list-same)))
 
   pub labels-list-same : tab (labelsIn t n) (labelsLength n) ≡ tab (onLabels s n l) (labelsLength n)
   labels-list-same = tab-ext (labelsIn t n) (onLabels s n l) (labelsLength n) labels-same
 
-pub elements-long : (n l : ℕ) (t : List ℕ) → length (tableElements n l t) ≡ selectorsLength n + witnessLength n + l + challengeCount
-elements-long n l t =
+pub elements-long : (e n l : ℕ) (t : List ℕ) → length (tableElements e n l t) ≡ selectorsLength n + witnessLength n + l + challengeCount + blinderCount * e
+elements-long e n l t =
     simp (length-append, length-tab) (omega arith)
 
 module _ (n : ℕ) (t : List ℕ) where

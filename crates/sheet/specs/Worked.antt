@@ -3,11 +3,13 @@
 -- bytes        the sheet
 -- without i, with i more   the sheet with byte i left out, and with more bytes before byte i
 -- publicBytes, changed i b, twoPublic   the sheet with row 0 made a public row; that sheet with another byte i; that sheet with l = 2
+-- blinders, blinded    a line of nine blinding numbers, 1 to 9; the sheet with it at its end
 -- over97, rows64, rows512   the sheet over 97; a first line of 64 rows over 97, and of 512 rows over the largest prime, with nothing behind it
 -- Worked, worked   what is read off the sheet, and the answers to it and to sheets near it; that they are so
 --
 -- Assumes nothing.
 use mathlib.Core.Path.{_≡_, refl}
+use mathlib.Core.Bool.{true, false}
 use mathlib.Core.List.{List, [], _∷_, _++_}
 use Prim.Native.Nat.{ℕ, suc}
 use lib.Count.{ones}
@@ -20,7 +22,7 @@ use Rattle.transform.specs.Parts.{laid}
 use Rattle.circuit.specs.Circuit.{lentBy, byRows}
 use Rattle.circuit.specs.Reasons.{unboundRow}
 use Rattle.text.specs.Text.{isDigit, digitsEnd, valueOf, isNumberAt, numberAt, fieldAt, isFieldAt, isLineAt, decimalOf, fieldsText, fieldsOf}
-use Rattle.sheet.specs.Sheet.{fieldsDue, lineAt, numberOf, sheetP, sheetN, sheetL, badLine, onSelectors, onLabels, onWitness, onPublics, onChallenges, sheetReasons, readAnswer, newAnswer}
+use Rattle.sheet.specs.Sheet.{fieldsDue, lineAt, numberOf, sheetP, sheetN, sheetL, isBlinded, badLine, onSelectors, onLabels, onWitness, onPublics, onChallenges, drawnOn, sheetReasons, readAnswer, newAnswer}
 use Rattle.sheet.specs.Written.{sheetText}
 
 -- 17,2,0 and the five lines behind it, each with byte 10 at its end
@@ -59,6 +61,13 @@ changed i b = take i publicBytes ++ (b ∷ drop (suc i) publicBytes)
 
 abbrev pub twoPublic : List ℕ
 twoPublic = take 55 (changed 5 50) ++ (54 ∷ 10 ∷ drop 55 publicBytes)
+
+-- 1,2,3,4,5,6,7,8,9 and byte 10, and the sheet with that line
+abbrev pub blinders : List ℕ
+blinders = 49 ∷ 44 ∷ 50 ∷ 44 ∷ 51 ∷ 44 ∷ 52 ∷ 44 ∷ 53 ∷ 44 ∷ 54 ∷ 44 ∷ 55 ∷ 44 ∷ 56 ∷ 44 ∷ 57 ∷ 10 ∷ []
+
+abbrev pub blinded : List ℕ
+blinded = bytes ++ blinders
 
 -- 9 in place of the 1 of 17; 97,64,0; and 2013265921,512,0
 abbrev pub over97 : List ℕ
@@ -108,8 +117,24 @@ pub record Worked : Type 0 where
   pub qM-one : readAnswer (changed 13 49) ≡ record { number = 14; detail = 0 }
   pub qC-one : readAnswer (changed 15 49) ≡ record { number = 14; detail = 0 }
   pub second-row : readAnswer twoPublic ≡ record { number = 14; detail = 1 }
-  -- the witness has room for 767 numbers
-  pub short : answerOf (sheetReasons bytes 1280 768 767 256 4) ≡ record { number = 6; detail = 4 }
+  -- with no line of blinding numbers behind the challenges, and with one
+  pub drawn : drawnOn bytes 2 0 ≡ 1 ∷ 1 ∷ 2 ∷ 2 ∷ 0 ∷ 0 ∷ 0 ∷ 0 ∷ 0 ∷ 0 ∷ 0 ∷ 0 ∷ 0 ∷ []
+  pub drawn-nine : drawnOn blinded 2 0 ≡ 1 ∷ 1 ∷ 2 ∷ 2 ∷ 1 ∷ 2 ∷ 3 ∷ 4 ∷ 5 ∷ 6 ∷ 7 ∷ 8 ∷ 9 ∷ []
+  pub none-blinded : isBlinded bytes 2 0 ≡ false
+  pub is-blinded : isBlinded blinded 2 0 ≡ true
+  pub blinded-accepted : readAnswer blinded ≡ record { number = 0; detail = 0 }
+  -- eight numbers on that line, ten, and no byte 10; a line behind it, and a byte
+  pub nine-few : readAnswer (bytes ++ drop 2 blinders) ≡ record { number = 5; detail = 7 }
+  pub nine-many : readAnswer (bytes ++ (49 ∷ 44 ∷ blinders)) ≡ record { number = 5; detail = 7 }
+  pub nine-open : readAnswer (bytes ++ take 17 blinders) ≡ record { number = 5; detail = 7 }
+  pub nine-twice : readAnswer (blinded ++ blinders) ≡ record { number = 5; detail = 8 }
+  pub nine-tail : readAnswer (blinded ++ (49 ∷ [])) ≡ record { number = 5; detail = 8 }
+  -- 99 for 9 at its end: place 28, behind ten selectors, six contents, four challenges and eight more; and 11 before the last challenge, 2: it is 112, and place 19
+  pub high-nine : readAnswer (bytes ++ (take 16 blinders ++ (57 ∷ drop 16 blinders))) ≡ record { number = 7; detail = 28 }
+  pub high-challenge : readAnswer (with 60 (49 ∷ 49 ∷ []) ++ (take 16 blinders ++ (57 ∷ drop 16 blinders))) ≡ record { number = 7; detail = 19 }
+  -- the witness has room for 767 numbers; challenges and blinding numbers have room for the challenges only
+  pub short : answerOf (sheetReasons bytes 1280 768 767 256 13) ≡ record { number = 6; detail = 4 }
+  pub short-drawn : answerOf (sheetReasons bytes 1280 768 768 256 4) ≡ record { number = 6; detail = 6 }
   -- over 97 a sheet is read as before
   pub read-97 : readAnswer over97 ≡ record { number = 0; detail = 0 }
   pub read-64 : readAnswer rows64 ≡ record { number = 3; detail = 0 }
@@ -122,7 +147,7 @@ pub record Worked : Type 0 where
   pub new-label : newAnswer (with 39 (49 ∷ [])) ≡ record { number = 8; detail = 5 }
 
 pub worked : Worked
-unfolding tab first isDigit digitsEnd valueOf isNumberAt numberAt fieldAt isFieldAt isLineAt fieldsDue lineAt numberOf badLine isField isCurrent isRows greatestRows firstOther firstAbove unboundRow laid decimalOf fieldsText fieldsOf ones lentBy byRows
+unfolding tab first isDigit digitsEnd valueOf isNumberAt numberAt fieldAt isFieldAt isLineAt fieldsDue lineAt numberOf isBlinded badLine isField isCurrent isRows greatestRows firstOther firstAbove unboundRow laid decimalOf fieldsText fieldsOf ones lentBy byRows
 worked =
     record {
       p-is = refl;
@@ -154,7 +179,20 @@ worked =
       qM-one = refl;
       qC-one = refl;
       second-row = refl;
+      drawn = refl;
+      drawn-nine = refl;
+      none-blinded = refl;
+      is-blinded = refl;
+      blinded-accepted = refl;
+      nine-few = refl;
+      nine-many = refl;
+      nine-open = refl;
+      nine-twice = refl;
+      nine-tail = refl;
+      high-nine = refl;
+      high-challenge = refl;
       short = refl;
+      short-drawn = refl;
       read-97 = refl;
       read-64 = refl;
       new-17 = refl;

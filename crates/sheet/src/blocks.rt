@@ -2,7 +2,7 @@
 ghost use mathlib.Core.Path.{_≡_};
 ghost use Prim.Native.Nat.{_≤_, _<_};
 ghost use Rattle.sheet.specs.Sheet.{sheetRows};
-ghost use Rattle.sheet.specs.Table.{lineWords, tableLines, columnBlock, rowBlock, selectorsBlock, labelsBlock, witnessBlock, publicsBlock, challengesBlock};
+ghost use Rattle.sheet.specs.Table.{lineWords, tableLines, columnBlock, rowBlock, selectorsBlock, labelsBlock, witnessBlock, publicsBlock, challengesBlock, blindersBlock};
 use super::table::LINE_WORDS;
 use super::table::table_place;
 
@@ -79,5 +79,17 @@ pub fn challenges(n: usize, l: usize) -> Block
         super::CHALLENGE_COUNT,
         n + n + l + 1,
         super::CHALLENGE_COUNT,
+    )
+}
+
+// Those of e lines, which are 0 or 1.
+pub fn blinders(e: usize, n: usize, l: usize) -> Block
+    requires { ⌜ (e ≤ 1) × (n ≤ sheetRows) × (l ≤ n) ⌝ }
+    ensures { λ r. ⌜ r ≡ blindersBlock e n l ⌝ }
+{
+    row_block(
+        super::BLINDER_COUNT,
+        n + n + l + 2,
+        super::BLINDER_COUNT * e,
     )
 }

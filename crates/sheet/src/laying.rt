@@ -7,8 +7,8 @@ ghost use lib.ListN.{length};
 ghost use Rattle.algebra.specs.Lists.{tab};
 ghost use Rattle.field.specs.Reasons.{firstAbove};
 ghost use Rattle.circuit.specs.Buffers.{selectorsLength, labelsLength, witnessLength};
-ghost use Rattle.sheet.specs.Sheet.{sheetRows, challengeCount, padded};
-ghost use Rattle.sheet.specs.Table.{inTable, selectorsIn, labelsIn, witnessIn, publicsIn, challengesIn, Fits, Full, Room, Laid};
+ghost use Rattle.sheet.specs.Sheet.{sheetRows, drawnCount, padded};
+ghost use Rattle.sheet.specs.Table.{inTable, selectorsIn, labelsIn, witnessIn, publicsIn, tableDrawn, Fits, Full, Room, Laid};
 use super::blocks;
 use super::blocks::Block;
 
@@ -77,28 +77,40 @@ fn lay_circuit(table: &[u32], n: usize, selectors: &mut [u32], labels: &mut [u32
     lay(table, blocks::labels(n), labels);
 }
 
-// What the circuit is filled with: witness, public inputs and challenges.
+// Challenges, and behind them the blinding numbers of e lines, which are 0 or 1.
+fn lay_drawn(table: &[u32], e: usize, n: usize, l: usize, out: &mut [u32])
+    requires { ⌜ Full n l (now table) × (e ≤ 1) × (length (now out) ≡ drawnCount) ⌝ }
+    ensures { λ _. ⌜ now (out .exit) ≡ tableDrawn e n l (now (table .entry)) ⌝ }
+{
+    let k = super::CHALLENGE_COUNT;
+    lay(table, blocks::challenges(n, l), &mut out[..k]);
+    lay(table, blocks::blinders(e, n, l), &mut out[k..]);
+}
+
+// What the circuit is filled with: witness, public inputs, and challenges with the blinding numbers.
 fn lay_filling(
     table: &[u32],
+    e: usize,
     n: usize,
     l: usize,
     witness: &mut [u32],
     publics: &mut [u32],
     challenges: &mut [u32],
 )
-    requires { ⌜ Full n l (now table) × (length (now witness) ≡ witnessLength sheetRows) × (length (now publics) ≡ sheetRows) × (length (now challenges) ≡ challengeCount) ⌝ }
+    requires { ⌜ Full n l (now table) × (e ≤ 1) × (length (now witness) ≡ witnessLength sheetRows) × (length (now publics) ≡ sheetRows) × (length (now challenges) ≡ drawnCount) ⌝ }
     ensures { λ _. ⌜ now (witness .exit) ≡ padded (witnessLength sheetRows) (witnessIn (now (table .entry)) n) (witnessLength n) ⌝ }
     ensures { λ _. ⌜ now (publics .exit) ≡ padded sheetRows (publicsIn (now (table .entry)) n l) l ⌝ }
-    ensures { λ _. ⌜ now (challenges .exit) ≡ padded challengeCount (challengesIn (now (table .entry)) n l) challengeCount ⌝ }
+    ensures { λ _. ⌜ now (challenges .exit) ≡ tableDrawn e n l (now (table .entry)) ⌝ }
 {
     lay(table, blocks::witness(n), witness);
     lay(table, blocks::publics(n, l), publics);
-    lay(table, blocks::challenges(n, l), challenges);
+    lay_drawn(table, e, n, l, challenges);
 }
 
 // All five buffers.
 pub fn lay_out(
     table: &[u32],
+    e: usize,
     n: usize,
     l: usize,
     selectors: &mut [u32],
@@ -107,9 +119,9 @@ pub fn lay_out(
     publics: &mut [u32],
     challenges: &mut [u32],
 )
-    requires { ⌜ Full n l (now table) × Room (now selectors) (now labels) (now witness) (now publics) (now challenges) ⌝ }
-    ensures { λ _. ⌜ Laid n l (now (table .entry)) (now (selectors .exit)) (now (labels .exit)) (now (witness .exit)) (now (publics .exit)) (now (challenges .exit)) ⌝ }
+    requires { ⌜ Full n l (now table) × (e ≤ 1) × Room (now selectors) (now labels) (now witness) (now publics) (now challenges) ⌝ }
+    ensures { λ _. ⌜ Laid e n l (now (table .entry)) (now (selectors .exit)) (now (labels .exit)) (now (witness .exit)) (now (publics .exit)) (now (challenges .exit)) ⌝ }
 {
     lay_circuit(table, n, selectors, labels);
-    lay_filling(table, n, l, witness, publics, challenges);
+    lay_filling(table, e, n, l, witness, publics, challenges);
 }

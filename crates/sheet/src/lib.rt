@@ -3,6 +3,7 @@
 // The public call is `read`. The layers above that take new sheets begin with `decide_prime`; one that reads a sheet for a call of its own goes on with `decide`. Lines
 // count from 0 in the code, as in the definitions.
 ghost use mathlib.Core.Path.{_≡_};
+ghost use mathlib.Core.Bool.{cond};
 ghost use lib.ListN.{length};
 ghost use Rattle.sheet.specs.Promises.{Reads};
 use field::Answer;
@@ -21,12 +22,13 @@ pub use table::line_room;
 pub use table::table_place;
 pub use table::table_room;
 
-// The answer of `read`: p, n and l are 0 if refused.
+// The answer of `read`; whether the sheet has a line of blinding numbers. If refused p, n and l are 0, and it is said to have none.
 pub struct SheetAnswer {
     pub answer: Answer,
     pub p: u32,
     pub n: u32,
     pub l: u32,
+    pub blinded: bool,
 }
 
 // The greatest number of rows on a sheet.
@@ -35,11 +37,27 @@ pub const ROWS: u32 = 256;
 // The challenges on a sheet.
 pub const CHALLENGE_COUNT: usize = 4;
 
+// The blinding numbers on a sheet that has a line of them.
+pub const BLINDER_COUNT: usize = 9;
+
+// The length of the buffer that both are laid in.
+pub const DRAWN_COUNT: usize = CHALLENGE_COUNT + BLINDER_COUNT;
+
 // The fields before the labels on a gate line: its selectors.
 pub const LABEL_FIELD: usize = circuit::SELECTOR_COUNT;
 
 // The fields of a gate line: those, and three labels.
 pub const GATE_FIELDS: usize = LABEL_FIELD + 3;
+
+// How many lines of blinding numbers a sheet has: 1 where it has one, else 0.
+pub fn blinder_lines(blinded: bool) -> usize
+    ensures { λ r. ⌜ r ≡ cond blinded 1 0 ⌝ }
+{
+    if blinded {
+        return 1;
+    }
+    0
+}
 
 // One byte more than a sheet may have, for a program that reads one: input that fills it is too long, however much follows.
 pub fn sheet_room() -> [u8; 65537]
@@ -48,7 +66,7 @@ pub fn sheet_room() -> [u8; 65537]
     [0; 65537]
 }
 
-// The numbers of a sheet, laid out for ROWS rows. All refusals are found before a lent word is written.
+// The numbers of a sheet, laid out for ROWS rows, the blinding numbers behind the challenges. All refusals are found before a lent word is written.
 pub fn read(
     sheet: &[u8],
     selectors: &mut [u32],
@@ -76,8 +94,10 @@ pub fn read(
     if number == 0 {
         let n = found.n as usize;
         let l = found.l as usize;
+        let e = blinder_lines(found.blinded);
         laying::lay_out(
             &table[..k],
+            e,
             n,
             l,
             selectors,

@@ -1,5 +1,6 @@
 // The reasons of the numbers in the table, which are counted as they are lent.
 ghost use mathlib.Core.Path.{_≡_};
+ghost use Prim.Native.Nat.{_≤_};
 ghost use Rattle.field.specs.Reasons.{answerOf, firstAbove};
 ghost use Rattle.sheet.specs.Table.{Full, tableElements};
 ghost use Rattle.sheet.specs.Deciding.{tableCircuit, tableNumbers};
@@ -7,18 +8,20 @@ use super::blocks;
 use super::laying;
 use field::Answer;
 
-// The place of the first element that is p or more, counted through selectors, witness, public inputs and challenges end to end; their number
-// where there is none.
-fn elements(p: u32, n: usize, l: usize, table: &[u32]) -> usize
-    requires { ⌜ Full n l (now table) ⌝ }
-    ensures { λ r. ⌜ r ≡ firstAbove p (tableElements n l (now (table .entry))) ⌝ }
+// The place of the first element that is p or more, counted through selectors, witness, public inputs, challenges and the blinding numbers of e lines end
+// to end; their number where there is none.
+fn elements(e: usize, p: u32, n: usize, l: usize, table: &[u32]) -> usize
+    requires { ⌜ Full n l (now table) × (e ≤ 1) ⌝ }
+    ensures { λ r. ⌜ r ≡ firstAbove p (tableElements e n l (now (table .entry))) ⌝ }
 {
     let selectors = circuit::selectors_length(n);
     let passed = selectors + circuit::witness_length(n);
     let a = laying::above(p, table, blocks::selectors(n));
     let b = laying::then_above(p, a, selectors, table, blocks::witness(n));
     let c = laying::then_above(p, b, passed, table, blocks::publics(n, l));
-    laying::then_above(p, c, passed + l, table, blocks::challenges(n, l))
+    let d = laying::then_above(p, c, passed + l, table, blocks::challenges(n, l));
+    let behind = passed + l + super::CHALLENGE_COUNT;
+    laying::then_above(p, d, behind, table, blocks::blinders(e, n, l))
 }
 
 // The reasons of the circuit: labels and public rows.
@@ -40,15 +43,16 @@ fn decide_circuit(n: usize, l: usize, table: &[u32]) -> Answer
 }
 
 // The reasons of the elements, then those of the circuit.
-pub fn decide_numbers(p: u32, n: usize, l: usize, table: &[u32]) -> Answer
-    requires { ⌜ Full n l (now table) ⌝ }
-    ensures { λ r. ⌜ r ≡ answerOf (tableNumbers p n l (now (table .entry))) ⌝ }
+pub fn decide_numbers(e: usize, p: u32, n: usize, l: usize, table: &[u32]) -> Answer
+    requires { ⌜ Full n l (now table) × (e ≤ 1) ⌝ }
+    ensures { λ r. ⌜ r ≡ answerOf (tableNumbers e p n l (now (table .entry))) ⌝ }
 {
-    let at = elements(p, n, l, table);
+    let at = elements(e, p, n, l, table);
     let count = circuit::selectors_length(n)
         + circuit::witness_length(n)
         + l
-        + super::CHALLENGE_COUNT;
+        + super::CHALLENGE_COUNT
+        + super::BLINDER_COUNT * e;
     let answer = field::decide_at(7, at, count);
     let number = answer.number;
     if number != 0 {

@@ -1,13 +1,15 @@
 // Why a sheet is turned down, if it is. Only the table is written, which is the reader's own.
 ghost use mathlib.Core.Path.{_≡_};
+ghost use mathlib.Core.Bool.{false};
 ghost use mathlib.Core.List.{_∷_, []};
 ghost use Prim.Native.Nat.{_≤_};
 ghost use lib.ListN.{length};
 ghost use Rattle.field.specs.Reasons.{answerOf, badLengths};
-ghost use Rattle.sheet.specs.Sheet.{linesDue, sheetDue, behindReasons, readReasons};
-ghost use Rattle.sheet.specs.Table.{tableLength, Held, Begins};
+ghost use Rattle.sheet.specs.Sheet.{sheetDue, behindReasons, readReasons};
+ghost use Rattle.sheet.specs.Table.{tableLength, Tabled, Begins};
 ghost use Rattle.sheet.specs.Deciding.{Decides};
 use super::SheetAnswer;
+use super::lines::Lined;
 use field::Answer;
 
 // The lengths due of `read`: of the sheet, which has whatever length it has, and of the five lent buffers.
@@ -21,7 +23,7 @@ pub fn lengths_due(bytes: usize) -> [usize; 6]
         circuit::labels_length(rows),
         circuit::witness_length(rows),
         rows,
-        super::CHALLENGE_COUNT,
+        super::DRAWN_COUNT,
     ]
 }
 
@@ -35,33 +37,38 @@ fn decide_behind(
     table: &mut [u32],
     long: &[usize],
     due: &[usize],
-) -> Answer
-    requires { ⌜ Begins (now s) n l start (now table) × (length (now long) ≡ length (now due)) × (length (now due) ≤ 16) ⌝ }
-    ensures { λ r. ⌜ r ≡ answerOf (behindReasons (now (s .entry)) p n l (badLengths (now (long .entry)) (now (due .entry)) ∷ [])) ⌝ }
-    ensures { λ r. ⌜ (r .number ≡ 0 → Held (now (s .entry)) n l (linesDue n l) (now (table .exit))) ⌝ }
+) -> Lined
+    requires { ⌜ Begins (now s) n l 1 start (now table) × (length (now long) ≡ length (now due)) × (length (now due) ≤ 16) ⌝ }
+    ensures { λ r. ⌜ r .answer ≡ answerOf (behindReasons (now (s .entry)) p n l (badLengths (now (long .entry)) (now (due .entry)) ∷ [])) ⌝ }
+    ensures { λ r. ⌜ (r .answer .number ≡ 0 → Tabled (now (s .entry)) n l (r .blinded) (now (table .exit))) ⌝ }
 {
-    let first = super::lines::decide_lines(s, n, l, start, table);
-    let number = first.number;
+    let lines = super::lines::decide_lines(s, n, l, start, table);
+    let answer = lines.answer;
+    let number = answer.number;
     if number != 0 {
-        return first;
+        return lines;
     }
-    let second = field::decide_lengths(long, due);
-    let number = second.number;
+    let blinded = lines.blinded;
+    let answer = field::decide_lengths(long, due);
+    let number = answer.number;
     if number != 0 {
-        return second;
+        return Lined { answer, blinded };
     }
-    super::numbers::decide_numbers(p, n, l, table)
+    let e = super::blinder_lines(blinded);
+    let answer = super::numbers::decide_numbers(e, p, n, l, table);
+    Lined { answer, blinded }
 }
 
-// A refusal: p, n and l are 0.
+// A refusal: p, n and l are 0, and no line of blinding numbers is there.
 fn turned_down(answer: Answer) -> SheetAnswer
-    ensures { λ r. ⌜ r ≡ record { answer = answer; p = 0; n = 0; l = 0 } ⌝ }
+    ensures { λ r. ⌜ r ≡ record { answer = answer; p = 0; n = 0; l = 0; blinded = false } ⌝ }
 {
     SheetAnswer {
         answer,
         p: 0,
         n: 0,
         l: 0,
+        blinded: false,
     }
 }
 
@@ -78,7 +85,8 @@ pub fn decide(s: &[u8], table: &mut [u32], long: &[usize], due: &[usize]) -> She
     }
     let n = first.n as usize;
     let l = first.l as usize;
-    let answer = decide_behind(s, first.p, n, l, first.next, table, long, due);
+    let behind = decide_behind(s, first.p, n, l, first.next, table, long, due);
+    let answer = behind.answer;
     let number = answer.number;
     if number != 0 {
         return turned_down(answer);
@@ -88,5 +96,6 @@ pub fn decide(s: &[u8], table: &mut [u32], long: &[usize], due: &[usize]) -> She
         p: first.p,
         n: first.n,
         l: first.l,
+        blinded: behind.blinded,
     }
 }

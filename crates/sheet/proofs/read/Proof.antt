@@ -10,7 +10,7 @@ use Rattle.field.specs.Reasons.{badLengths}
 use Rattle.sheet.specs.Sheet.{readReasons, sheetReasons}
 use Rattle.sheet.specs.Table.{tableLength}
 use Rattle.sheet.specs.Deciding.{Decides}
-use Rattle.sheet.proofs.Reading.{ready, buffers, read-accepted, read-refused}
+use Rattle.sheet.proofs.Reading.{ready, few, buffers, read-accepted, read-refused}
 use Rattle.sheet.proofs.read.Statement.{statement}
 use Rattle.sheet.proofs.read.Tie as tie
 
@@ -63,22 +63,26 @@ cast-n c = search needs
 cast-l : tie.Need-cast-l
 cast-l c = search needs
 
+blinder-lines-requires : tie.Need-blinder-lines-requires
+blinder-lines-requires c κs = search needs
+
 array-share-prefix-table : tie.Need-array-share-prefix-table
 array-share-prefix-table c =
-    let d = c .before .before .before .before .before in
+    let d = c .before .before .before .before .before .before in
     simp length-append (omega (arith, filled d))
 
 slice-aggregate-lay-out : tie.Need-slice-aggregate-lay-out
 slice-aggregate-lay-out c =
-    let d = c .before .before .before .before .before .before in
+    let d = c .before .before .before .before .before .before .before in
     sym (ap length (front d) ∙ filled d)
 
 lay-out-requires : tie.Need-lay-out-requires
 lay-out-requires c κs =
-    let d = c .before .before .before .before .before .before .before .before .before .before .before in
+    let d = c .before .before .before .before .before .before .before .before .before .before .before .before in
     let a = start d .args in
-    let zero = c .before .before .before .before .before .before .before .before .if1 .taken in (
+    let zero = c .before .before .before .before .before .before .before .before .before .if1 .taken in (
       ready (a .sheet .now) (a .selectors .now) (a .labels .now) (a .witness .now) (a .publics .now) (a .challenges .now) _ _ (decided d) zero (filled d) _ (front d),
+      few (a .sheet .now) (a .selectors .now) (a .labels .now) (a .witness .now) (a .publics .now) (a .challenges .now) _ _ (decided d) zero _ (c .before .before .before .before .before .before .blinder-lines .ensures),
       buffers (a .sheet .now) (a .selectors .now) (a .labels .now) (a .witness .now) (a .publics .now) (a .challenges .now) _ _ (decided d) zero,
     )
 
@@ -99,9 +103,9 @@ same-length-5 c = search needs
 
 returns : tie.Need-returns
 returns c =
-    let d = c .before .before .before .before .before .before .before .before .before .before .before .before .before .before .before .before .before .before .before .before .before .before in
+    let d = c .before .before .before .before .before .before .before .before .before .before .before .before .before .before .before .before .before .before .before .before .before .before .before in
     let a = start d .args in
-    read-accepted (a .sheet .now) (a .selectors .now) (a .labels .now) (a .witness .now) (a .publics .now) (a .challenges .now) _ _ (decided d) (c .before .before .before .before .before .before .before .before .before .before .before .before .before .before .before .before .before .before .before .if1 .taken) (filled d) _ (front d) _ _ _ _ _ (c .before .before .before .before .before .before .before .before .before .before .lay-out .ensures)
+    read-accepted (a .sheet .now) (a .selectors .now) (a .labels .now) (a .witness .now) (a .publics .now) (a .challenges .now) _ _ (decided d) (c .before .before .before .before .before .before .before .before .before .before .before .before .before .before .before .before .before .before .before .before .if1 .taken) (filled d) _ (front d) _ (c .before .before .before .before .before .before .before .before .before .before .before .before .before .before .before .before .before .blinder-lines .ensures) _ _ _ _ _ (c .before .before .before .before .before .before .before .before .before .before .lay-out .ensures)
 
 returns-2 : tie.Need-returns-2
 returns-2 c =
@@ -122,6 +126,7 @@ read-spec =
     decide-requires
     cast-n
     cast-l
+    blinder-lines-requires
     array-share-prefix-table
     slice-aggregate-lay-out
     lay-out-requires

@@ -1,7 +1,7 @@
--- `sheet::laying::lay_filling` meets its contract: three blocks of the table are laid out. Assumes nothing.
+-- `sheet::laying::lay_filling` meets its contract: two blocks of the table are laid out, then challenges and blinding numbers. Assumes nothing.
 use native.Mathlib.Omega.{arith}
 use borrow.Author.Needs.{needs}
-use Rattle.sheet.proofs.BlockLaws.{witness-fit, publics-fit, challenges-fit, count-room, laid-block}
+use Rattle.sheet.proofs.BlockLaws.{witness-fit, publics-fit, count-room, laid-block}
 use Rattle.sheet.proofs.laying.lay_filling.Statement.{statement}
 use Rattle.sheet.proofs.laying.lay_filling.Tie as tie
 
@@ -23,14 +23,8 @@ lay-requires-2 c κs =
     let block = c .before .publics .ensures in
     (publics-fit _ _ _ (pre .0) block, count-room block (omega (arith, pre .0 .few, pre .0 .publics)))
 
-challenges-requires : tie.Need-challenges-requires
-challenges-requires c κs = search needs
-
-lay-requires-3 : tie.Need-lay-requires-3
-lay-requires-3 c κs =
-    let pre = c .before .before .before .before .before .before .before .before .before .before .before .before .before .before .before .before .pre in
-    let block = c .before .challenges .ensures in
-    (challenges-fit _ _ _ (pre .0) block, count-room block (omega arith))
+lay-drawn-requires : tie.Need-lay-drawn-requires
+lay-drawn-requires c κs = search needs
 
 same-length : tie.Need-same-length
 same-length c = search needs
@@ -43,8 +37,13 @@ same-length-3 c = search needs
 
 returns : tie.Need-returns
 returns c =
-    let s = c .before .before .before .before .before .before .before .before .before .before .before .before .before .before .before .before .before .before .before in
-    (laid-block (s .args .table .now) (c .before .before .before .before .before .before .before .before .before .before .before .before .before .before .witness .ensures) (s .pre .1) (c .before .before .before .before .before .before .before .before .before .before .before .before .lay .ensures), (laid-block (s .args .table .now) (c .before .before .before .before .before .before .before .before .before .publics .ensures) (s .pre .2) (c .before .before .before .before .before .before .before .lay2 .ensures), laid-block (s .args .table .now) (c .before .before .before .before .challenges .ensures) (s .pre .3) (c .before .before .lay3 .ensures)))
+    let s = c .before .before .before .before .before .before .before .before .before .before .before .before .before .before .before .before .before .before in (
+      laid-block (s .args .table .now) (c .before .before .before .before .before .before .before .before .before .before .before .before .before .witness .ensures) (s .pre .2) (c .before .before .before .before .before .before .before .before .before .before .before .lay .ensures),
+      (
+        laid-block (s .args .table .now) (c .before .before .before .before .before .before .before .before .publics .ensures) (s .pre .3) (c .before .before .before .before .before .before .lay2 .ensures),
+        c .before .before .lay-drawn .ensures,
+      ),
+    )
 
 pub lay-filling-spec : {M : Type 1} → statement M
 lay-filling-spec =
@@ -54,8 +53,7 @@ lay-filling-spec =
     lay-requires
     publics-requires
     lay-requires-2
-    challenges-requires
-    lay-requires-3
+    lay-drawn-requires
     same-length
     same-length-2
     same-length-3

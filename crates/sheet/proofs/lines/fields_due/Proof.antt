@@ -31,11 +31,38 @@ unfolding fieldsDue
 returns-4 c =
     rw (ne-eqb _ _ (c .before .before .before .if1 .left), lt-leb _ _ (c .before .before .if2 .left), lt-leb _ _ (c .before .if3 .left), le-leb _ _ (c .if4 .taken))
 
+add-if5 : tie.Need-add-if5
+add-if5 c = search needs
+
+add-if5-2 : tie.Need-add-if5-2
+add-if5-2 c = search needs
+
+add-if5-3 : tie.Need-add-if5-3
+add-if5-3 c = search needs
+
 returns-5 : tie.Need-returns-5
 unfolding fieldsDue
 returns-5 c =
-    rw (ne-eqb _ _ (c .before .before .before .if1 .left), lt-leb _ _ (c .before .before .if2 .left), lt-leb _ _ (c .before .if3 .left), lt-leb _ _ (c .if4 .left))
+    rw (ne-eqb _ _ (c .before .before .before .before .if1 .left), lt-leb _ _ (c .before .before .before .if2 .left), lt-leb _ _ (c .before .before .if3 .left), lt-leb _ _ (c .before .if4 .left), le-leb _ _ (c .if5 .taken))
+
+returns-6 : tie.Need-returns-6
+unfolding fieldsDue
+returns-6 c =
+    rw (ne-eqb _ _ (c .before .before .before .before .if1 .left), lt-leb _ _ (c .before .before .before .if2 .left), lt-leb _ _ (c .before .before .if3 .left), lt-leb _ _ (c .before .if4 .left), lt-leb _ _ (c .if5 .left))
 
 pub fields-due-spec : {M : Type 1} → statement M
 fields-due-spec =
-    tie.close (tie.spec returns returns-2 add-if3 returns-3 add-if4 add-if4-2 returns-4 returns-5)
+    tie.close
+    (tie.spec
+    returns
+    returns-2
+    add-if3
+    returns-3
+    add-if4
+    add-if4-2
+    returns-4
+    add-if5
+    add-if5-2
+    add-if5-3
+    returns-5
+    returns-6)

@@ -1,6 +1,6 @@
 -- `sheet::lines::read_lines` meets its contract. The loop's invariant: the lines before i are in the table, line i starts at `at`, and the
 -- search for a line out of form goes on from i. Assumes nothing.
-use mathlib.Core.Path.{_≡_, sym, ap, _∙_}
+use mathlib.Core.Path.{_≡_, refl, sym, ap, _∙_}
 use mathlib.Core.Bool.{not}
 use Prim.Native.Nat.{_-_, _≤_, _<_}
 use native.Mathlib.Omega.{arith}
@@ -8,33 +8,25 @@ use lib.ListN.{length}
 use borrow.Author.Needs.{needs}
 use borrow.Author.Tests.{not-false}
 use borrow.Rule.Slice.PartMut.{midOf, putMid, same-len-mid}
-use Rattle.algebra.specs.Modular.{first}
 use Rattle.algebra.specs.Search.{first-stop, first-skip, first-end}
-use Rattle.sheet.specs.Sheet.{lineAt, linesDue, badLine}
+use Rattle.sheet.specs.Sheet.{lineAt, badFrom}
 use Rattle.sheet.specs.Table.{lineWords, tableLines, Held}
 use Rattle.sheet.specs.Due.{some-due, due-most}
-use Rattle.sheet.proofs.LineLaws.{isBad, bad-begins, line-is, held-none, held-more, next-start, part-long}
+use Rattle.sheet.proofs.LineLaws.{line-is, held-more, next-start, part-long}
 use Rattle.sheet.proofs.lines.read_lines.Statement.{statement}
 use Rattle.sheet.proofs.lines.read_lines.Tie as tie
 
 abbrev Inv-loop : tie.InvT-loop
-Inv-loop s n l start table₀ due at₀ i₀ table at i =
-    (0 < i) × (i ≤ linesDue n l) × (at ≡ lineAt s n l i) × (at ≤ length s) × (badLine s n l ≡ first (isBad s n l) i (linesDue n l - i)) × Held s n l i table × (length table ≡ length table₀)
+Inv-loop s n l first due start table₀ at₀ i₀ table at i =
+    (0 < i) × (i ≤ due) × (at ≡ lineAt s n l i) × (at ≤ length s) × (badFrom s n l first due ≡ badFrom s n l i due) × Held s n l i table × (length table ≡ length table₀)
 
 abbrev μ-loop : tie.MeasureT-loop
-μ-loop s n l start table₀ due at₀ i₀ table at i = linesDue n l - i
-
-add-due : tie.Need-add-due Inv-loop μ-loop
-add-due c = search needs
-
-add-due-2 : tie.Need-add-due-2 Inv-loop μ-loop
-add-due-2 c = search needs
-
-add-due-3 : tie.Need-add-due-3 Inv-loop μ-loop
-add-due-3 c = search needs
+μ-loop s n l first due start table₀ at₀ i₀ table at i = due - i
 
 loop-holds : tie.Need-loop-holds Inv-loop μ-loop
-loop-holds c = (search needs, omega arith, c .before .before .pre .starts, c .before .before .pre .within, bad-begins _ _ _, held-none _ _ _ _, search needs)
+loop-holds c =
+    let begins = c .before .before .pre .0 in
+    (begins .behind-first, search needs, begins .starts, begins .within, refl, begins .held, search needs)
 
 fields-due-requires : tie.Need-fields-due-requires Inv-loop μ-loop
 fields-due-requires c κs = search needs
@@ -50,10 +42,10 @@ few : (c : tie.After-fields-due Inv-loop μ-loop) → c .fields-due .result ≤ 
 few c = omega (arith, c .fields-due .ensures, due-most (start c .args .n) (start c .args .l) (c .before .before .loop .i))
 
 low : (c : tie.After-fields-due Inv-loop μ-loop) → c .before .before .loop .i < tableLines
-low c = omega (arith, start c .pre .full .few, start c .pre .full .publics, c .before .loop-test .taken)
+low c = omega (arith, start c .pre .2, c .before .loop-test .taken)
 
 fits : (c : tie.After-table-place2 Inv-loop μ-loop) → c .table-place2 .result ≤ length (turn c .loop .table)
-fits c = omega (arith, few (c .before .before), low (c .before .before), c .table-place2 .ensures, turn c .loop .inv .6, start (c .before .before) .pre .full .long)
+fits c = omega (arith, few (c .before .before), low (c .before .before), c .table-place2 .ensures, turn c .loop .inv .6, start (c .before .before) .pre .0 .full .long)
 
 long : (c : tie.After-table-place2 Inv-loop μ-loop)
     → length (midOf (c .before .table-place .result) (c .table-place2 .result - c .before .table-place .result) (turn c .loop .table)) ≡ c .before .before .fields-due .result
@@ -83,7 +75,7 @@ line-requires c κs =
     let d = c .before .before .before in
     let s = start d in (
       turn (c .before) .loop .inv .3,
-      s .pre .short,
+      s .pre .0 .short,
       omega (arith, long (c .before), d .fields-due .ensures, some-due (s .args .n) (s .args .l) (turn (c .before) .loop .i)),
     )
 
@@ -135,7 +127,7 @@ same-length-2 c = search needs
 returns-2 : tie.Need-returns-2 Inv-loop μ-loop
 returns-2 c =
     let inv = c .before .loop .inv in
-    (sym (inv .4 ∙ first-end _ _ _ (c .loop-test .left)), λ u. (rw (← u) (inv .2), rw (← u) (inv .5)))
+    (sym (inv .4 ∙ first-end _ _ _ (c .loop-test .left)), λ u. (rw (← u) (inv .2), inv .3, rw (← u) (inv .5)))
 
 pub read-lines-spec : {M : Type 1} → statement M
 read-lines-spec =
@@ -143,9 +135,6 @@ read-lines-spec =
     (tie.spec
     Inv-loop
     μ-loop
-    add-due
-    add-due-2
-    add-due-3
     loop-holds
     fields-due-requires
     table-place-requires

@@ -1,12 +1,12 @@
 -- `sheet::numbers::decide_numbers` meets its contract: the reason of the elements, then those of the circuit. Assumes nothing.
 use mathlib.Core.Path.{_≡_, ap₂, _∙_}
 use mathlib.Core.List.{List, [], _∷_}
-use Prim.Native.Nat.{ℕ, _+_}
+use Prim.Native.Nat.{ℕ, _+_, _*_}
 use native.Mathlib.Omega.{arith}
 use lib.ListN.{length}
 use Rattle.field.specs.Reasons.{Reason, answerOf, reasonAt, badElement}
 use Rattle.field.specs.ReasonLaws.{refused-first, refused-later}
-use Rattle.sheet.specs.Sheet.{challengeCount}
+use Rattle.sheet.specs.Sheet.{challengeCount, blinderCount}
 use Rattle.sheet.specs.Table.{tableElements}
 use Rattle.sheet.specs.Deciding.{tableCircuit}
 use borrow.Author.Needs.{needs}
@@ -16,7 +16,7 @@ use Rattle.sheet.proofs.numbers.decide_numbers.Tie as tie
 
 -- the two parts, and that the first is decided
 abbrev first : tie.Start → List Reason
-first s = badElement (s .args .p) (tableElements (s .args .n) (s .args .l) (s .args .table .now)) ∷ []
+first s = badElement (s .args .p) (tableElements (s .args .e) (s .args .n) (s .args .l) (s .args .table .now)) ∷ []
 
 abbrev second : tie.Start → List Reason
 second s = tableCircuit (s .args .n) (s .args .l) (s .args .table .now)
@@ -26,8 +26,8 @@ decided c =
     let a = c .before .before .before .before .before .args in
     let s = c .before .before .selectors-length in
     let w = c .before .witness-length in
-    let elements = tableElements (a .n) (a .l) (a .table .now) in
-    let long : s .result + w .result + a .l + challengeCount ≡ length elements = omega (arith, s .ensures, w .ensures, elements-long (a .n) (a .l) (a .table .now)) in
+    let elements = tableElements (a .e) (a .n) (a .l) (a .table .now) in
+    let long : s .result + w .result + a .l + challengeCount + blinderCount * a .e ≡ length elements = omega (arith, s .ensures, w .ensures, elements-long (a .e) (a .n) (a .l) (a .table .now)) in
     c .decide-at .ensures ∙ ap₂ (λ (at count : ℕ). answerOf (reasonAt 7 at count ∷ [])) (c .before .before .before .elements .ensures) long
 
 elements-requires : tie.Need-elements-requires
@@ -47,6 +47,12 @@ add-count-2 c = search needs
 
 add-count-3 : tie.Need-add-count-3
 add-count-3 c = search needs
+
+mul-count : tie.Need-mul-count
+mul-count c = search needs
+
+add-count-4 : tie.Need-add-count-4
+add-count-4 c = search needs
 
 decide-at-requires : tie.Need-decide-at-requires
 decide-at-requires c κs = search needs
@@ -74,6 +80,8 @@ decide-numbers-spec =
     add-count
     add-count-2
     add-count-3
+    mul-count
+    add-count-4
     decide-at-requires
     returns
     decide-circuit-requires

@@ -49,10 +49,10 @@ same-length c = search needs
 
 returns-2 : tie.Need-returns-2
 returns-2 c =
-    let a = c .before .before .before .before .before .before .before .before .before .before .before .before .before .before .before in
-    let f = c .before .before .before .before .before .before .before .before .before .before .decide-first .ensures in
-    let zero = c .before .before .before .before .before .before .before .before .if1 .left in
-    let e = behind _ _ _ _ _ (f .1 zero .0) (lengths a) _ _ (f .0) zero (c .before .before .before .before .decide-behind .ensures .0) in
+    let a = c .before .before .before .before .before .before .before .before .before .before .before .before .before .before .before .before in
+    let f = c .before .before .before .before .before .before .before .before .before .before .before .decide-first .ensures in
+    let zero = c .before .before .before .before .before .before .before .before .before .if1 .left in
+    let e = behind _ _ _ _ _ (f .1 zero .0) (lengths a) _ _ (f .0) zero (c .before .before .before .before .before .decide-behind .ensures .0) in
     refused-as (a .args .s .now) (all a) _ e _ _ (c .turned-down2 .ensures) (c .before .if2 .taken)
 
 same-length-2 : tie.Need-same-length-2
@@ -60,12 +60,12 @@ same-length-2 c = search needs
 
 returns-3 : tie.Need-returns-3
 returns-3 c =
-    let a = c .before .before .before .before .before .before .before .before .before .before .before .before .before .before in
-    let f = c .before .before .before .before .before .before .before .before .before .decide-first .ensures in
-    let zero = c .before .before .before .before .before .before .before .if1 .left in
-    let d = c .before .before .before .decide-behind .ensures in
+    let a = c .before .before .before .before .before .before .before .before .before .before .before .before .before .before .before in
+    let f = c .before .before .before .before .before .before .before .before .before .before .decide-first .ensures in
+    let zero = c .before .before .before .before .before .before .before .before .if1 .left in
+    let d = c .before .before .before .before .decide-behind .ensures in
     let e = behind _ _ _ _ _ (f .1 zero .0) (lengths a) _ _ (f .0) zero (d .0) in
-    accepted-as (a .args .s .now) (all a) _ e _ _ _ _ _ (c .if2 .left) (f .1 zero .0) (d .1 (c .if2 .left))
+    accepted-as (a .args .s .now) (all a) _ e _ _ _ _ _ _ (c .if2 .left) (f .1 zero .0) (d .1 (c .if2 .left))
 
 pub decide-spec : {M : Type 1} → statement M
 decide-spec =
