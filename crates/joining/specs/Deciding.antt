@@ -33,8 +33,8 @@ use Rattle.field.specs.Reasons.{Reason, answerOf, badLengths}
 use Rattle.field.specs.ReasonLaws.{none-applies, both-none, refused-first, refused-later}
 use Rattle.circuit.specs.Buffers.{selectorsLength, witnessLength}
 use Rattle.circuit.specs.RightlyLent.{RightCircuit}
-use Rattle.sheet.specs.Sheet.{sheetRows, challengeCount, linesDue, sheetP, sheetN, sheetL, onSelectors, onWitness, onPublics, onChallenges, badFirst, newReasons}
-use Rattle.sheet.specs.Table.{Held}
+use Rattle.sheet.specs.Sheet.{sheetRows, challengeCount, sheetP, sheetN, sheetL, onSelectors, onWitness, onPublics, onChallenges, badFirst, newReasons}
+use Rattle.sheet.specs.Table.{HeldAll}
 use Rattle.sheet.specs.Deciding.{Taken, taken-of, new-numbers, new-of, new-retired, new-own}
 use Rattle.joining.specs.declared.reasons.Pair.{Pair}
 use Rattle.joining.specs.Joining.{Numbers, onSheet, joinedText, joinedLength, joinDue, pairReasons, joinReasons, Joins}
@@ -62,11 +62,12 @@ filled-of s T =
     let P : ℕ → Type 0 = λ x. x < p in
     let behind = all-right P (tab (onSelectors s n l) (selectorsLength n)) _ (T .elements) in
     let last = all-right P (tab (onWitness s n l) (witnessLength n)) _ behind in
+    let drawn = all-right P (tab (onPublics s n l) l) _ last in
     record {
       circuit-right = T .circuit-right;
       witness-right = record { long = length-tab (onWitness s n l) (witnessLength n); below = all-left P (tab (onWitness s n l) (witnessLength n)) _ behind };
       publics-right = record { long = length-tab (onPublics s n l) l; below = all-left P (tab (onPublics s n l) l) _ last };
-      challenges-right = record { long = length-tab (onChallenges s n l) challengeCount; below = all-right P (tab (onPublics s n l) l) _ last };
+      challenges-right = record { long = length-tab (onChallenges s n l) challengeCount; below = all-left P (tab (onChallenges s n l) challengeCount) _ drawn };
     }
 
 -- THE DECISION
@@ -76,8 +77,8 @@ pub record Known (one two : List ℕ) (r : Pair) (t u : List ℕ) : Type 0 where
   pub n-is : r .n ≡ sheetN one
   pub l-is : r .l ≡ sheetL one
   pub m-is : r .m ≡ sheetL two
-  pub one-held : Held one (sheetN one) (sheetL one) (linesDue (sheetN one) (sheetL one)) t
-  pub two-held : Held two (sheetN two) (sheetL two) (linesDue (sheetN two) (sheetL two)) u
+  pub one-held : HeldAll one (sheetN one) (sheetL one) t
+  pub two-held : HeldAll two (sheetN two) (sheetL two) u
 
 pub record Decides (one two : List ℕ) (room : ℕ) (r : Pair) (t u : List ℕ) : Type 0 where
   pub answer : r .answer ≡ answerOf (joinReasons one two room)

@@ -28,9 +28,9 @@ use Rattle.circuit.specs.Buffers.{selectorCount, selectorsLength, labelsLength}
 use Rattle.circuit.specs.Positions.{position-column, position-row}
 use Rattle.circuit.specs.Witness.{lent-laid}
 use Rattle.text.specs.Text.{lineOf}
-use Rattle.sheet.specs.Sheet.{challengeCount, labelField, gateFields, linesDue, sheetP, sheetN, sheetL, onSelectors, onLabels, onPublics, onChallenges}
+use Rattle.sheet.specs.Sheet.{challengeCount, labelField, gateFields, sheetP, sheetN, sheetL, onSelectors, onLabels, onPublics, onChallenges}
 use Rattle.sheet.specs.Due.{due-witness}
-use Rattle.sheet.specs.Table.{tableLength, tablePlace, columnBlock, publicsBlock, challengesBlock, placeIn, inTable, Full, Held}
+use Rattle.sheet.specs.Table.{tableLength, tablePlace, columnBlock, publicsBlock, challengesBlock, placeIn, inTable, Full, HeldAll}
 use Rattle.sheet.specs.TableLaws.{on-position, selectors-same, labels-same, publics-same, challenges-same}
 use Rattle.sheet.specs.LaidLines.{laid-split, laid-same}
 use Rattle.sheet.specs.Written.{circuitLine, witnessLine, publicLine}
@@ -49,7 +49,7 @@ raised raise t i j = rw (le-ltb (labelField + j) labelField (omega arith))
 
 -- OF ONE SHEET
 
-module _ (s t : List ℕ) (full : Full (sheetN s) (sheetL s) t) (held : Held s (sheetN s) (sheetL s) (linesDue (sheetN s) (sheetL s)) t) where
+module _ (s t : List ℕ) (full : Full (sheetN s) (sheetL s) t) (held : HeldAll s (sheetN s) (sheetL s) t) where
   abbrev n : ℕ
   n = sheetN s
 
@@ -120,8 +120,7 @@ module _ (s t : List ℕ) (full : Full (sheetN s) (sheetL s) t) (held : Held s (
 -- OF TWO SHEETS
 
 module _ (one two : List ℕ) (joinable : Joinable (onSheet one) (onSheet two)) (t u : List ℕ) (one-long : length t ≡ tableLength) (two-long : length u ≡ tableLength)
-    (one-held : Held one (sheetN one) (sheetL one) (linesDue (sheetN one) (sheetL one)) t)
-    (two-held : Held two (sheetN two) (sheetL two) (linesDue (sheetN two) (sheetL two)) u) where
+    (one-held : HeldAll one (sheetN one) (sheetL one) t) (two-held : HeldAll two (sheetN two) (sheetL two) u) where
   abbrev rows : ℕ
   rows = sheetN one
 

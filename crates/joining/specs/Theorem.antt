@@ -1,6 +1,7 @@
 -- What is proved of every two sheets that are joined.
 --
--- JoinedRightly one two   the joined sheet fits into the written buffer; reading it is accepted, also as a new sheet, and gives the joined numbers; they are a circuit of 2n
+-- JoinedRightly one two   the joined sheet fits into the written buffer; reading it is accepted, also as a new sheet, and gives the joined numbers; it has no line of
+--                         blinding numbers; they are a circuit of 2n
 --                         rows with the public inputs of both; its wiring never leads from one sheet's positions to the other's; and its contents
 --                         satisfy it with its public inputs exactly if those of both sheets did
 -- joined-rightly          THE THEOREM: so it is wherever no reason of `join` applies
@@ -17,18 +18,19 @@ use borrow.Author.Tests.{eqb-true}
 use Rattle.field.specs.declared.Answer.{Answer}
 use Rattle.field.specs.Reasons.{answerOf, isAccepted}
 use Rattle.circuit.specs.Circuit.{Circuit, permutation}
-use Rattle.sheet.specs.Sheet.{sheetP, sheetN, sheetL, readAnswer, newAnswer}
+use Rattle.sheet.specs.Sheet.{sheetP, sheetN, sheetL, isBlinded, readAnswer, newAnswer}
 use Rattle.joining.specs.declared.Joined.{Joined}
 use Rattle.joining.specs.Joining.{onSheet, constraintsOf, Satisfied, fromSecond, joinedNumbers, joinedText, joinedLength, joinReasons, Joins}
 use Rattle.joining.specs.Deciding.{Joinable, joinable-of}
 use Rattle.joining.specs.Satisfaction.{joined-circuit, wiring-apart, both-of, joined-of}
-use Rattle.joining.specs.Written.{joined-fits, joined-accepted, joined-new, joined-back}
+use Rattle.joining.specs.Written.{joined-fits, joined-accepted, joined-new, joined-back, joined-plain}
 
 pub record JoinedRightly (one two : List ℕ) : Type 0 where
   pub fits : length (joinedText one two) ≤ joinedLength
   pub accepted : readAnswer (joinedText one two) ≡ record { number = 0; detail = 0 }
   pub new : newAnswer (joinedText one two) ≡ record { number = 0; detail = 0 }
   pub back : onSheet (joinedText one two) ≡ joinedNumbers (onSheet one) (onSheet two)
+  pub plain : isBlinded (joinedText one two) (2 * sheetN one) (sheetL one + sheetL two) ≡ false
   pub circuit : Circuit (sheetP one) (2 * sheetN one) (sheetL one + sheetL two) (constraintsOf (joinedNumbers (onSheet one) (onSheet two)))
   pub apart : (k : ℕ) → k < 3 * (2 * sheetN one)
       → fromSecond (sheetN one) (sheetL one) (sheetL two) (permutation (3 * (2 * sheetN one)) (constraintsOf (joinedNumbers (onSheet one) (onSheet two)) .label) k)
@@ -44,6 +46,7 @@ joined-rightly one two room e =
       accepted = joined-accepted (onSheet one) (onSheet two) joinable;
       new = joined-new (onSheet one) (onSheet two) joinable;
       back = joined-back (onSheet one) (onSheet two) joinable;
+      plain = joined-plain (onSheet one) (onSheet two) joinable;
       circuit = joined-circuit (onSheet one) (onSheet two) joinable;
       apart = wiring-apart (onSheet one) (onSheet two) joinable;
       both = both-of (onSheet one) (onSheet two) joinable;

@@ -9,10 +9,10 @@
 use mathlib.Core.Path.{_≡_, refl}
 use mathlib.Core.Logic.{inl, inr}
 use mathlib.Core.Bool.{true, false}
-use mathlib.Core.List.{List, [], _∷_}
+use mathlib.Core.List.{List, [], _∷_, _++_}
 use Prim.Native.Nat.{ℕ}
 use lib.Count.{ones}
-use lib.ListN.{drop}
+use lib.ListN.{take, drop}
 use Rattle.algebra.specs.Lists.{tab}
 use Rattle.algebra.specs.Modular.{first}
 use Rattle.field.specs.Fields.{isField, isCurrent, isRows, greatestRows}
@@ -21,8 +21,8 @@ use Rattle.transform.specs.Parts.{laid}
 use Rattle.circuit.specs.Circuit.{lentBy, laidBy, byRows}
 use Rattle.circuit.specs.Reasons.{unboundRow}
 use Rattle.text.specs.Text.{isDigit, digitsEnd, valueOf, isNumberAt, numberAt, fieldAt, isFieldAt, isLineAt, decimalOf, fieldsText, fieldsOf}
-use Rattle.sheet.specs.Sheet.{fieldsDue, lineAt, numberOf, badLine}
-use Rattle.sheet.specs.Worked.{bytes, without, with, changed, over97, rows64}
+use Rattle.sheet.specs.Sheet.{fieldsDue, lineAt, numberOf, isBlinded, badLine}
+use Rattle.sheet.specs.Worked.{bytes, without, with, changed, blinders, blinded, over97, rows64}
 use Rattle.joining.specs.Joining.{onSheet, sourceRow, fromSecond, joinedAt, joinedNumbers, joinedText, joinReasons}
 
 abbrev pub second : List ℕ
@@ -59,6 +59,11 @@ pub record Worked : Type 0 where
   pub witness : joinedNumbers (onSheet bytes) (onSheet second) .witness ≡ 2 ∷ 3 ∷ 6 ∷ 2 ∷ 3 ∷ 6 ∷ 6 ∷ 6 ∷ 12 ∷ 6 ∷ 6 ∷ 12 ∷ []
   pub text : joinedText bytes second ≡ joinedBytes
   pub taken : answerOf (joinReasons bytes second 65536) ≡ record { number = 0; detail = 0 }
+  -- both with a line of blinding numbers, which is dropped; that of the second out of form; too great a number on that of the first, then an extra line in the second
+  pub text-blinded : joinedText blinded (second ++ blinders) ≡ joinedBytes
+  pub taken-blinded : answerOf (joinReasons blinded (second ++ blinders) 65536) ≡ record { number = 0; detail = 0 }
+  pub nine-few : answerOf (joinReasons blinded (second ++ drop 2 blinders) 65536) ≡ record { number = 5; detail = 8 }
+  pub high-nine : answerOf (joinReasons (bytes ++ (take 16 blinders ++ (57 ∷ drop 16 blinders))) (second ++ (blinders ++ blinders)) 65536) ≡ record { number = 7; detail = 28 }
   -- the written buffer is one byte too short, behind a 5 of the first sheet, and before its 8
   pub short : answerOf (joinReasons bytes second 65535) ≡ record { number = 6; detail = 3 }
   pub line-first : answerOf (joinReasons (without 61) second 65535) ≡ record { number = 5; detail = 6 }
@@ -78,7 +83,7 @@ pub record Worked : Type 0 where
   pub label-then-97 : answerOf (joinReasons (with 39 (49 ∷ [])) over97 65536) ≡ record { number = 8; detail = 5 }
 
 pub worked : Worked
-unfolding tab first isDigit digitsEnd valueOf isNumberAt numberAt fieldAt isFieldAt isLineAt fieldsDue lineAt numberOf badLine isField isCurrent isRows greatestRows firstOther firstAbove unboundRow laid decimalOf fieldsText fieldsOf ones lentBy laidBy byRows sourceRow joinedAt
+unfolding tab first isDigit digitsEnd valueOf isNumberAt numberAt fieldAt isFieldAt isLineAt fieldsDue lineAt numberOf isBlinded badLine isField isCurrent isRows greatestRows firstOther firstAbove unboundRow laid decimalOf fieldsText fieldsOf ones lentBy laidBy byRows sourceRow joinedAt
 worked =
     record {
       row-0 = refl;
@@ -91,6 +96,10 @@ worked =
       witness = refl;
       text = refl;
       taken = refl;
+      text-blinded = refl;
+      taken-blinded = refl;
+      nine-few = refl;
+      high-nine = refl;
       short = refl;
       line-first = refl;
       short-first = refl;

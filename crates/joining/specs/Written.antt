@@ -3,11 +3,12 @@
 -- joined-fits      the joined sheet has at most 65,536 bytes
 -- joined-accepted, joined-new   reading it is accepted, and so is taking it as a new sheet
 -- joined-back      and gives the joined numbers
+-- joined-plain     it has no line of blinding numbers
 --
 -- Assumes nothing.
 use mathlib.Core.Path.{_≡_, _∙_}
 use mathlib.Core.Logic.{_⊎_, inl, inr}
-use mathlib.Core.Bool.{true}
+use mathlib.Core.Bool.{true, false}
 use mathlib.Core.List.{List, []}
 use Prim.Native.Nat.{ℕ, _*_, _/_, _%_, _≤_, _<_}
 use native.Mathlib.Nat.{mod-lt, div-lt-iff-lt-mul}
@@ -23,7 +24,7 @@ use Rattle.circuit.specs.Circuit.{position, lentWitness}
 use Rattle.circuit.specs.Buffers.{witnessLength}
 use Rattle.circuit.specs.RightlyLent.{RightCircuit, selectors-right, labels-right}
 use Rattle.circuit.specs.Witness.{laid-elements, lent-below}
-use Rattle.sheet.specs.Sheet.{sheetP, readAnswer, newAnswer}
+use Rattle.sheet.specs.Sheet.{sheetP, isBlinded, readAnswer, newAnswer}
 use Rattle.sheet.specs.Deciding.{new-same}
 use Rattle.sheet.specs.Written.{Small, Right}
 use Rattle.sheet.specs.Fits.{sheet-long}
@@ -128,3 +129,6 @@ module _ (A B : Numbers) (joinable : Joinable A B) where
   pub joined-back : onSheet (textOf J) ≡ J
   joined-back =
       rw (back .p-is, back .n-is, back .l-is, back .selectors-are, back .labels-are, back .witness-is, back .publics-are, back .challenges-are)
+
+  pub joined-plain : isBlinded (textOf J) (J .n) (J .l) ≡ false
+  joined-plain = back .none-blinded

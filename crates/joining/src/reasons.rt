@@ -68,6 +68,7 @@ fn decide_new(s: &[u8], table: &mut [u32], long: &[usize], due: &[usize]) -> She
             p: 0,
             n: 0,
             l: 0,
+            blinded: false,
         };
     }
     sheet::decide(s, table, long, due)

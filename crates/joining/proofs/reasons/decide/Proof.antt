@@ -115,8 +115,8 @@ returns-3 c =
         n-is = one .1;
         l-is = one .2;
         m-is = two .2;
-        one-held = d .decide-new .ensures .held zero;
-        two-held = e .decide-new2 .ensures .held none;
+        one-held = d .decide-new .ensures .tabled zero .held;
+        two-held = e .decide-new2 .ensures .tabled none .held;
       };
     }
 

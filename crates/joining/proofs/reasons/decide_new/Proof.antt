@@ -24,7 +24,8 @@ returns c =
       p-is = rw no;
       n-is = rw no;
       l-is = rw no;
-      held = λ u. absurd (c .if1 .taken u);
+      blinded-is = rw no;
+      tabled = λ u. absurd (c .if1 .taken u);
     }
 
 decide-requires : tie.Need-decide-requires
@@ -44,7 +45,8 @@ returns-2 c =
       p-is = d .p-is;
       n-is = d .n-is;
       l-is = d .l-is;
-      held = d .held;
+      blinded-is = d .blinded-is;
+      tabled = d .tabled;
     }
 
 pub decide-new-spec : {M : Type 1} → statement M
