@@ -19,8 +19,8 @@ use lib.ListN.{length, replicate}
 use borrow.Author.Tests.{lt-ltb, le-ltb}
 use Rattle.algebra.specs.Lists.{tab}
 use Rattle.algebra.specs.Tables.{tab-ext, tab-add, tab-const}
-use Rattle.circuit.specs.Buffers.{selectorCount, selectorsLength, labelsLength, witnessLength}
-use Rattle.sheet.specs.Sheet.{challengeCount, blinderCount, labelField, plainLines, padded}
+use Rattle.circuit.specs.Buffers.{blinderCount, selectorCount, selectorsLength, labelsLength, witnessLength}
+use Rattle.sheet.specs.Sheet.{challengeCount, labelField, plainLines, padded}
 use Rattle.sheet.specs.declared.blocks.Block.{Block}
 use Rattle.sheet.specs.Table.{lineWords, tableLines, tableLength, tablePlace, columnBlock, rowBlock, selectorsBlock, labelsBlock, witnessBlock, publicsBlock, challengesBlock, blindersBlock, inTable, Fits, Full}
 

@@ -14,7 +14,8 @@ use Prim.Native.Nat.{ℕ, _+_, _≤_, _<_}
 use native.Mathlib.Omega.{arith}
 use lib.Dec.{eqb, leb}
 use borrow.Author.Tests.{ne-eqb, le-leb, lt-leb}
-use Rattle.sheet.specs.Sheet.{challengeCount, blinderCount, gateFields, fieldsDue, isBlinded, sheetBlinded}
+use Rattle.circuit.specs.Buffers.{blinderCount}
+use Rattle.sheet.specs.Sheet.{challengeCount, gateFields, fieldsDue, isBlinded, sheetBlinded}
 use Rattle.sheet.specs.Table.{lineWords}
 
 module _ (n l i : ℕ) where

@@ -2,7 +2,6 @@
 --
 -- sheetRows            the greatest number of rows on a sheet; the lent buffers have the lengths that so many rows need
 -- challengeCount       the challenges on a sheet
--- blinderCount         the blinding numbers on a sheet that has a line of them
 -- drawnCount           the length of the buffer that both are laid in
 -- labelField           the fields before the labels on a gate line: its selectors
 -- gateFields           the fields of a gate line: those, and three labels
@@ -54,7 +53,7 @@ use Rattle.algebra.specs.Modular.{first}
 use Rattle.field.specs.declared.Answer.{Answer}
 use Rattle.field.specs.Reasons.{Reason, answerOf, shapeReasons, badLengths, currentOnly}
 use Rattle.circuit.specs.Circuit.{Layout, byRows}
-use Rattle.circuit.specs.Buffers.{selectorCount, selectorsLength, labelsLength, witnessLength}
+use Rattle.circuit.specs.Buffers.{selectorCount, blinderCount, selectorsLength, labelsLength, witnessLength}
 use Rattle.circuit.specs.Reasons.{numberReasons}
 use Rattle.text.specs.Text.{numberAt, fieldAt, isLineAt}
 
@@ -63,9 +62,6 @@ sheetRows = 256
 
 abbrev pub challengeCount : ℕ
 challengeCount = 4
-
-abbrev pub blinderCount : ℕ
-blinderCount = 9
 
 abbrev pub drawnCount : ℕ
 drawnCount = challengeCount + blinderCount

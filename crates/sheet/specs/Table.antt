@@ -27,9 +27,9 @@ use mathlib.Core.List.{List, _++_}
 use Prim.Native.Nat.{ℕ, _+_, _*_, _/_, _%_, _≤_, _<_}
 use lib.ListN.{length, getD}
 use Rattle.algebra.specs.Lists.{tab}
-use Rattle.circuit.specs.Buffers.{selectorsLength, labelsLength, witnessLength}
+use Rattle.circuit.specs.Buffers.{blinderCount, selectorsLength, labelsLength, witnessLength}
 use Rattle.sheet.specs.declared.blocks.Block.{Block}
-use Rattle.sheet.specs.Sheet.{sheetRows, challengeCount, blinderCount, drawnCount, labelField, fieldsDue, plainLines, linesDue, lineAt, numberOf, isBlinded, sheetBlinded, padded}
+use Rattle.sheet.specs.Sheet.{sheetRows, challengeCount, drawnCount, labelField, fieldsDue, plainLines, linesDue, lineAt, numberOf, isBlinded, sheetBlinded, padded}
 
 abbrev pub lineWords : ℕ
 lineWords = 9

@@ -18,12 +18,12 @@ use Rattle.algebra.specs.Ends.{run-room}
 use Rattle.algebra.specs.Lists.{tab}
 use Rattle.algebra.specs.Tables.{length-tab, getD-tab, tab-ext}
 use Rattle.circuit.specs.Circuit.{position, witnessPosition, isPublicRow, lentConstraints, laidBy, byRows, lentWitness}
-use Rattle.circuit.specs.Buffers.{selectorCount, selectorsLength, labelsLength, witnessLength}
+use Rattle.circuit.specs.Buffers.{blinderCount, selectorCount, selectorsLength, labelsLength, witnessLength}
 use Rattle.circuit.specs.Positions.{position-column, position-row}
 use Rattle.circuit.specs.Witness.{lent-laid}
 use Rattle.circuit.specs.Reasons.{unboundRow}
 use Rattle.circuit.specs.Selectors.{isPublicAt, unboundIn, unbound-same}
-use Rattle.sheet.specs.Sheet.{challengeCount, blinderCount, labelField, fieldsDue, plainLines, linesDue, numberOf, sheetBlinded, onSelectors, onLabels, onPosition, onWitness, onPublics, onChallenges, onBlinders, blindersOn, drawnOn, sheetElements}
+use Rattle.sheet.specs.Sheet.{challengeCount, labelField, fieldsDue, plainLines, linesDue, numberOf, sheetBlinded, onSelectors, onLabels, onPosition, onWitness, onPublics, onChallenges, onBlinders, blindersOn, drawnOn, sheetElements}
 use Rattle.sheet.specs.Due.{due-circuit, due-witness, due-publics, due-challenges, due-blinders, blinded-most}
 use Rattle.sheet.specs.Table.{lineWords, tablePlace, selectorsBlock, placeIn, Full, HeldAll, selectorsIn, labelsIn, witnessIn, publicsIn, challengesIn, blindersIn, tableElements, tableDrawn}
 

@@ -38,7 +38,7 @@ pub const ROWS: u32 = 256;
 pub const CHALLENGE_COUNT: usize = 4;
 
 // The blinding numbers on a sheet that has a line of them.
-pub const BLINDER_COUNT: usize = 9;
+pub const BLINDER_COUNT: usize = circuit::BLINDER_COUNT;
 
 // The length of the buffer that both are laid in.
 pub const DRAWN_COUNT: usize = CHALLENGE_COUNT + BLINDER_COUNT;

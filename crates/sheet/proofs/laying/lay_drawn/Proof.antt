@@ -8,7 +8,8 @@ use lib.Seq.{length-take-le}
 use borrow.Author.Needs.{needs}
 use Rattle.algebra.specs.Ends.{rest-length, both-parts}
 use Rattle.algebra.specs.Lists.{tab}
-use Rattle.sheet.specs.Sheet.{challengeCount, blinderCount}
+use Rattle.circuit.specs.Buffers.{blinderCount}
+use Rattle.sheet.specs.Sheet.{challengeCount}
 use Rattle.sheet.specs.Table.{challengesIn}
 use Rattle.sheet.proofs.BlockLaws.{challenges-fit, blinders-fit, count-room, laid-block}
 use Rattle.sheet.proofs.laying.lay_drawn.Statement.{statement}

@@ -6,7 +6,8 @@ use native.Mathlib.Omega.{arith}
 use lib.ListN.{length}
 use Rattle.field.specs.Reasons.{Reason, answerOf, reasonAt, badElement}
 use Rattle.field.specs.ReasonLaws.{refused-first, refused-later}
-use Rattle.sheet.specs.Sheet.{challengeCount, blinderCount}
+use Rattle.circuit.specs.Buffers.{blinderCount}
+use Rattle.sheet.specs.Sheet.{challengeCount}
 use Rattle.sheet.specs.Table.{tableElements}
 use Rattle.sheet.specs.Deciding.{tableCircuit}
 use borrow.Author.Needs.{needs}
