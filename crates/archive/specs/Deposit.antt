@@ -1,6 +1,7 @@
 -- The text of a deposit, and what `deposit` promises.
 --
--- depositTextWith L s   the text of a sheet: why it is turned down as a new sheet, or else the text of its numbers, the witness being lent by the layout L
+-- depositTextWith L s   the text of a sheet: why it is turned down as a new sheet, or else the text of its numbers, the witness being lent by the layout L; its transcript is
+--                       blinded where the sheet has a line of blinding numbers
 -- depositDue            the lengths due of the sheet, which has whatever length it has, and of the text
 -- depositReasons        of `deposit`
 -- DepositsWith L        refused: the buffer as it came; accepted: the text, and zeros behind it
@@ -17,7 +18,7 @@ use Rattle.field.specs.Reasons.{Reason, answerOf, isAccepted, badLengths}
 use Rattle.circuit.specs.Circuit.{Layout, byRows}
 use Rattle.circuit.specs.Buffers.{selectorsLength, labelsLength, witnessLength}
 use Rattle.text.specs.Text.{refusedText}
-use Rattle.sheet.specs.Sheet.{challengeCount, sheetP, sheetN, sheetL, onSelectors, onLabels, onWitnessWith, onPublics, onChallenges, newAnswerWith}
+use Rattle.sheet.specs.Sheet.{challengeCount, sheetP, sheetN, sheetL, onSelectors, onLabels, onWitnessWith, onPublics, onChallenges, sheetBlinded, blindersOn, newAnswerWith}
 use Rattle.archive.specs.declared.Deposited.{Deposited}
 use Rattle.archive.specs.Printed.{textLength, workTextWith}
 
@@ -27,7 +28,7 @@ depositTextWith L s =
     let n : ℕ = sheetN s in
     let l : ℕ = sheetL s in
     cond (isAccepted (newAnswerWith L s))
-    (workTextWith L (sheetP s) n l (tab (onSelectors s n l) (selectorsLength n)) (tab (onLabels s n l) (labelsLength n)) (tab (onWitnessWith L s n l) (witnessLength n)) (tab (onPublics s n l) l) (tab (onChallenges s n l) challengeCount))
+    (workTextWith L (sheetBlinded s n l) (sheetP s) n l (tab (onSelectors s n l) (selectorsLength n)) (tab (onLabels s n l) (labelsLength n)) (tab (onWitnessWith L s n l) (witnessLength n)) (tab (onPublics s n l) l) (tab (onChallenges s n l) challengeCount) (blindersOn s n l))
     (refusedText (newAnswerWith L s .number) (newAnswerWith L s .detail))
 
 abbrev pub depositDue : ℕ → List ℕ

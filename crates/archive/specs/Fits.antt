@@ -26,7 +26,8 @@ use Rattle.text.specs.Text.{refusedWord, refusedText}
 use Rattle.text.specs.Puts.{length-line}
 use Rattle.archive.specs.Printed.{verdictText, transcriptText, textLength, provedText, workAnswer, workTextWith, workText}
 use Rattle.archive.specs.Lines.{transcript-fits}
-use Rattle.sheet.specs.Sheet.{newAnswer}
+use Rattle.sheet.specs.Sheet.{sheetN, sheetL, newAnswer}
+use Rattle.sheet.specs.Due.{blinded-most}
 use Rattle.archive.specs.Deposit.{depositTextWith, depositText, Deposits}
 use Rattle.archive.specs.Sheets.{right-of}
 
@@ -41,20 +42,20 @@ verdict-long : (v : PointVerdict) → length (verdictText v) ≡ 7
 verdict-long accept = refl
 verdict-long reject = refl
 
-proved-fits : (p n : ℕ) (C : Constraints) (x : ℕ → ℕ) (T : List ℕ) (beta gamma alpha zeta : ℕ) → n ≤ 256 → length T ≡ transcriptLength n
-    → length (provedText p n C x T beta gamma alpha zeta) ≤ textLength
-proved-fits p n C x T beta gamma alpha zeta few long =
-    let verdict : PointVerdict = pointVerdict p n (prepared p n C) x T beta gamma alpha zeta in
-    omega (arith, length-append (transcriptText n T) (verdictText verdict), transcript-fits n few T long, verdict-long verdict)
+proved-fits : (e p n : ℕ) (C : Constraints) (x : ℕ → ℕ) (T : List ℕ) (beta gamma alpha zeta : ℕ) → e ≤ 1 → n ≤ 256 → length T ≡ transcriptLength e n
+    → length (provedText e p n C x T beta gamma alpha zeta) ≤ textLength
+proved-fits e p n C x T beta gamma alpha zeta small few long =
+    let verdict : PointVerdict = pointVerdict e p n (prepared p n C) x T beta gamma alpha zeta in
+    omega (arith, length-append (transcriptText e n T) (verdictText verdict), transcript-fits e n small few T long, verdict-long verdict)
 
-work-fits : {p n : ℕ} → Domain p n → (l : ℕ) (selectors labels witness publics challenges : List ℕ) → 1 ≤ n → n ≤ 256
-    → length (workText p n l selectors labels witness publics challenges) ≤ textLength
+work-fits : {p n : ℕ} → Domain p n → (e l : ℕ) (selectors labels witness publics challenges blinders : List ℕ) → e ≤ 1 → 1 ≤ n → n ≤ 256
+    → length (workText e p n l selectors labels witness publics challenges blinders) ≤ textLength
 unfolding workTextWith
-work-fits {p} {n} D l selectors labels witness publics challenges some-rows few =
-    go (isAccepted r) (proved p n C x v beta gamma alpha) (λ T. proved-elements D C x v beta gamma alpha T some-rows)
+work-fits {p} {n} D e l selectors labels witness publics challenges blinders small some-rows few =
+    go (isAccepted r) (proved e p n C x v blinders beta gamma alpha) (λ T. proved-elements D e C x v blinders beta gamma alpha T some-rows)
   where
     r : Answer
-    r = workAnswer p n l selectors labels witness publics challenges
+    r = workAnswer e p n l selectors labels witness publics challenges blinders
 
     C : Constraints
     C = lentConstraints n selectors labels
@@ -75,13 +76,13 @@ work-fits {p} {n} D l selectors labels witness publics challenges some-rows few 
     alpha = getD challenges 2 0
 
     with : List ℕ → List ℕ
-    with T = provedText p n C x T beta gamma alpha (getD challenges 3 0)
+    with T = provedText e p n C x T beta gamma alpha (getD challenges 3 0)
 
-    go : (b : Bool) (o : Option (List ℕ)) → ((T : List ℕ) → o ≡ some T → Elements p (transcriptLength n) T)
+    go : (b : Bool) (o : Option (List ℕ)) → ((T : List ℕ) → o ≡ some T → Elements p (transcriptLength e n) T)
         → length {A = ℕ} (elim (cond b o none) [ none ↦ refusedText (r .number) (r .detail) | some T ↦ with T ]) ≤ textLength
     go false o h = refused-fits (r .number) (r .detail)
     go true none h = refused-fits (r .number) (r .detail)
-    go true (some T) h = proved-fits p n C x T beta gamma alpha (getD challenges 3 0) few (h T refl .long)
+    go true (some T) h = proved-fits e p n C x T beta gamma alpha (getD challenges 3 0) small few (h T refl .long)
 
 pub text-fits : (s : List ℕ) → length (depositText s) ≤ textLength
 unfolding depositTextWith
@@ -89,7 +90,7 @@ text-fits s =
     either-fits (isAccepted (newAnswer s)) _ _
     (λ e.
     let R = right-of s (eqb-true (newAnswer s .number) 0 e) in
-    work-fits (domain _ _ (R .admissible)) _ _ _ _ _ _ (omega (arith, rows-power _ _ (R .admissible .rows) .least)) (R .few-rows))
+    work-fits (domain _ _ (R .admissible)) _ _ _ _ _ _ _ _ (blinded-most s (sheetN s) (sheetL s)) (omega (arith, rows-power _ _ (R .admissible .rows) .least)) (R .few-rows))
     (refused-fits _ _)
 
 pub deposit-fits : (s text : List ℕ) (r : Deposited) (text' : List ℕ) → Deposits s text r text' → r .length ≤ textLength

@@ -1,6 +1,6 @@
 -- What the functions that put lines ask, and laws of the lines' lengths.
 --
--- Laid m transcript out    a transcript of m rows, up to 256, and a buffer of the text's length
+-- Laid e m transcript out  a transcript of m rows, up to 256, and a buffer of the text's length
 -- length-wires             the lines of the wires
 -- length-five              the lines of the five polynomials
 -- transcript-fits          those of a transcript fit, with room for a verdict
@@ -16,10 +16,11 @@ use Rattle.circuit.specs.Parts.{short-wire, short-z}
 use Rattle.text.specs.Puts.{fieldBytes, length-line}
 use Rattle.archive.specs.Printed.{letterLine, transcriptText, textLength}
 
-pub record Laid (m : ℕ) (transcript out : List ℕ) : Type 0 where
+pub record Laid (e m : ℕ) (transcript out : List ℕ) : Type 0 where
+  pub blinded : e ≤ 1
   pub some : 2 ≤ m
   pub few : m ≤ 256
-  pub long : length transcript ≡ transcriptLength m
+  pub long : length transcript ≡ transcriptLength e m
   pub room : length out ≡ textLength
 
 pub length-wires : (a b c : List ℕ)
@@ -47,14 +48,14 @@ length-five a b c z t =
       length-line (116 ∷ []) t,
     )
 
-pub transcript-fits : (m : ℕ) → m ≤ 256 → (l : List ℕ) → length l ≡ transcriptLength m → length (transcriptText m l) + 7 ≤ textLength
-transcript-fits m few l long =
+pub transcript-fits : (e m : ℕ) → e ≤ 1 → m ≤ 256 → (l : List ℕ) → length l ≡ transcriptLength e m → length (transcriptText e m l) + 7 ≤ textLength
+transcript-fits e m small few l long =
     omega (
       arith,
-      length-five (wirePart m 0 l) (wirePart m 1 l) (wirePart m 2 l) (zPart m l) (tPart m l),
-      short-wire m l 0,
-      short-wire m l 1,
-      short-wire m l 2,
-      short-z m l,
-      length-drop (tStart m) l,
+      length-five (wirePart e m 0 l) (wirePart e m 1 l) (wirePart e m 2 l) (zPart e m l) (tPart e m l),
+      short-wire e m l 0,
+      short-wire e m l 1,
+      short-wire e m l 2,
+      short-z e m l,
+      length-drop (tStart e m) l,
     )

@@ -16,27 +16,28 @@
 -- text-long       where it is not turned down, the buffer has the text's length
 --
 -- Assumes nothing.
-use mathlib.Core.Path.{_≡_, refl, sym, ap, _∙_}
+use mathlib.Core.Path.{_≡_, refl, sym, ap, ap₂, _∙_}
 use mathlib.Core.Logic.{_≢_}
-use mathlib.Core.Bool.{true, false}
-use mathlib.Core.List.{List, [], _∷_, _++_, append-nil}
-use Prim.Native.Nat.{ℕ, _-_, _≤_, _<_}
+use mathlib.Core.Bool.{true, false, cond}
+use mathlib.Core.List.{List, [], _∷_, _++_}
+use Prim.Native.Nat.{ℕ, _*_, _-_, _≤_, _<_}
 use native.Mathlib.Omega.{arith}
-use lib.ListN.{length, take, replicate}
-use lib.Seq.{take-at}
+use lib.ListN.{length, take, drop, replicate}
+use lib.Seq.{take-at, drop-at}
 use borrow.Author.Tests.{eq-eqb, ne-eqb}
 use Rattle.algebra.specs.Lists.{tab}
 use Rattle.algebra.specs.Polynomial.{Elements}
-use Rattle.algebra.specs.Tables.{length-tab, all-right}
+use Rattle.algebra.specs.Tables.{length-tab, all-left, all-right}
 use Rattle.field.specs.declared.Answer.{Answer}
 use Rattle.field.specs.Fields.{isCurrent, Admissible}
 use Rattle.field.specs.Primes.{rows-power}
 use Rattle.field.specs.Lent.{lengths-same, lengths-none}
 use Rattle.field.specs.Reasons.{answerOf, isAccepted, badLengths}
 use Rattle.field.specs.ReasonLaws.{none-applies}
-use Rattle.circuit.specs.Buffers.{selectorsLength, labelsLength, witnessLength}
+use Rattle.circuit.specs.Buffers.{blinderCount, selectorsLength, labelsLength, witnessLength}
 use Rattle.text.specs.Text.{refusedText}
-use Rattle.sheet.specs.Sheet.{sheetRows, challengeCount, sheetP, sheetN, sheetL, onSelectors, onLabels, onWitness, onPublics, onChallenges, padded, badFirst, sheetDue, newAnswer}
+use Rattle.sheet.specs.Sheet.{sheetRows, challengeCount, drawnCount, sheetP, sheetN, sheetL, sheetBlinded, onSelectors, onLabels, onWitness, onPublics, onChallenges, onBlinders, blindersOn, drawnOn, padded, badFirst, sheetDue, newAnswer}
+use Rattle.sheet.specs.Due.{blinded-most, blinded-lines}
 use Rattle.sheet.specs.Deciding.{primeLine, taken-of, own-answer, new-refused, new-same, new-of, new-retired}
 use Rattle.sheet.specs.declared.SheetAnswer.{SheetAnswer}
 use Rattle.sheet.specs.Promises.{Reads}
@@ -63,8 +64,9 @@ right-of s e =
       challenges-right = record {
         long = length-tab (onChallenges s n l) challengeCount;
         below =
-            all-right P (tab (onPublics s n l) l) _
-            (all-right P (tab (onWitness s n l) (witnessLength n)) _ (all-right P (tab (onSelectors s n l) (selectorsLength n)) _ (taken .elements)));
+            all-left P (tab (onChallenges s n l) challengeCount) _
+            (all-right P (tab (onPublics s n l) l) _
+            (all-right P (tab (onWitness s n l) (witnessLength n)) _ (all-right P (tab (onSelectors s n l) (selectorsLength n)) _ (taken .elements))));
       };
     }
 
@@ -84,20 +86,20 @@ retired-text s h e = rw (new-retired s [] h e)
 take-padded : (m : ℕ) (f : ℕ → ℕ) (k : ℕ) → take k (padded m f k) ≡ tab f k
 take-padded m f k = take-at (tab f k) (replicate (m - k) 0) k (length-tab f k)
 
-pub record Arrays (selectors labels witness publics challenges : List ℕ) : Type 0 where
+pub record Arrays (selectors labels witness publics drawn : List ℕ) : Type 0 where
   pub selectors-long : selectorsLength sheetRows ≡ length selectors
   pub labels-long : labelsLength sheetRows ≡ length labels
   pub witness-long : witnessLength sheetRows ≡ length witness
   pub publics-long : sheetRows ≡ length publics
-  pub challenges-long : challengeCount ≡ length challenges
+  pub drawn-long : drawnCount ≡ length drawn
 
-module _ (s selectors labels witness publics challenges : List ℕ) (r : SheetAnswer) (selectors' labels' witness' publics' challenges' : List ℕ)
-    (R : Reads s selectors labels witness publics challenges r selectors' labels' witness' publics' challenges')
-    (L : Arrays selectors labels witness publics challenges) (current : isCurrent (sheetP s) ≡ true) where
+module _ (s selectors labels witness publics drawn : List ℕ) (r : SheetAnswer) (selectors' labels' witness' publics' drawn' : List ℕ)
+    (R : Reads s selectors labels witness publics drawn r selectors' labels' witness' publics' drawn')
+    (L : Arrays selectors labels witness publics drawn) (current : isCurrent (sheetP s) ≡ true) where
   pub read-answer : r .answer ≡ newAnswer s
   read-answer =
       R .answer
-      ∙ rw (sym (L .selectors-long), sym (L .labels-long), sym (L .witness-long), sym (L .publics-long), sym (L .challenges-long))
+      ∙ rw (sym (L .selectors-long), sym (L .labels-long), sym (L .witness-long), sym (L .publics-long), sym (L .drawn-long))
       (own-answer s (badLengths (sheetDue (length s)) (sheetDue (length s)) ∷ []) (omega arith, tt) (rw (lengths-none {long = sheetDue (length s)} refl)))
       ∙ sym (new-same s [] current)
 
@@ -117,8 +119,25 @@ module _ (s selectors labels witness publics challenges : List ℕ) (r : SheetAn
     l-read : r .l ≡ sheetL s
     l-read = R .l-is ∙ rw accepted
 
-    challenges-read : challenges' ≡ tab (onChallenges s (sheetN s) (sheetL s)) challengeCount
-    challenges-read = R .challenges-laid ∙ rw accepted (append-nil _)
+    -- how many lines of blinding numbers there are
+    abbrev e : ℕ
+    e = cond (r .blinded) 1 0
+
+    e-read : e ≡ sheetBlinded s (sheetN s) (sheetL s)
+    e-read = blinded-lines s (sheetN s) (sheetL s) e (r .blinded) (R .blinded-is ∙ rw accepted) refl
+
+    drawn-read : drawn' ≡ drawnOn s (sheetN s) (sheetL s)
+    drawn-read = R .challenges-laid ∙ rw accepted
+
+    challenges-read : take challengeCount drawn' ≡ tab (onChallenges s (sheetN s) (sheetL s)) challengeCount
+    challenges-read = ap (take challengeCount) drawn-read ∙ take-at (tab (onChallenges s (sheetN s) (sheetL s)) challengeCount) _ challengeCount (length-tab (onChallenges s (sheetN s) (sheetL s)) challengeCount)
+
+    blinders-read : take (blinderCount * e) (drop challengeCount drawn') ≡ blindersOn s (sheetN s) (sheetL s)
+    blinders-read =
+        ap₂ (λ (k : ℕ) (d : List ℕ). take (blinderCount * k) (drop challengeCount d)) e-read drawn-read
+        ∙ ap (take (blinderCount * sheetBlinded s (sheetN s) (sheetL s)))
+        (drop-at (tab (onChallenges s (sheetN s) (sheetL s)) challengeCount) _ challengeCount (length-tab (onChallenges s (sheetN s) (sheetL s)) challengeCount))
+        ∙ take-padded blinderCount (onBlinders s (sheetN s) (sheetL s)) (blinderCount * sheetBlinded s (sheetN s) (sheetL s))
 
     pub rows-few : r .n ≤ 256
     rows-few = omega (arith, n-read, right .few-rows)
@@ -126,16 +145,18 @@ module _ (s selectors labels witness publics challenges : List ℕ) (r : SheetAn
     pub publics-few : r .l ≤ 256
     publics-few = omega (arith, l-read, right .few-rows, right .few-publics)
 
-    pub sheet-workable : (text : List ℕ) → length text ≡ textLength → Workable (r .p) (r .n) challenges' text
+    pub sheet-workable : (text : List ℕ) → length text ≡ textLength → Workable (cond (r .blinded) 1 0) (r .p) (r .n) (take challengeCount drawn') (take (blinderCount * cond (r .blinded) 1 0) (drop challengeCount drawn')) text
     sheet-workable text t =
         record {
+          blinded = omega (arith, e-read, blinded-most s (sheetN s) (sheetL s));
+          unblinded = λ none. ap (λ (k : ℕ). take (blinderCount * k) (drop challengeCount drawn')) none;
           some = omega (arith, n-read, rows-power (sheetP s) (sheetN s) (right .admissible .rows) .least);
           few = rows-few;
           challenges-right = rw (p-read, challenges-read) (right .challenges-right);
           room = t;
         }
 
-    pub sheet-text : workText (r .p) (r .n) (r .l) (take (selectorsLength (r .n)) selectors') (take (labelsLength (r .n)) labels') (take (witnessLength (r .n)) witness') (take (r .l) publics') challenges'
+    pub sheet-text : workText (cond (r .blinded) 1 0) (r .p) (r .n) (r .l) (take (selectorsLength (r .n)) selectors') (take (labelsLength (r .n)) labels') (take (witnessLength (r .n)) witness') (take (r .l) publics') (take challengeCount drawn') (take (blinderCount * cond (r .blinded) 1 0) (drop challengeCount drawn'))
         ≡ depositText s
     unfolding depositTextWith
     sheet-text =
@@ -153,6 +174,8 @@ module _ (s selectors labels witness publics challenges : List ℕ) (r : SheetAn
           witness-read,
           publics-read,
           challenges-read,
+          blinders-read,
+          e-read,
           take-padded (selectorsLength sheetRows) (onSelectors s (sheetN s) (sheetL s)) (selectorsLength (sheetN s)),
           take-padded (labelsLength sheetRows) (onLabels s (sheetN s) (sheetL s)) (labelsLength (sheetN s)),
           take-padded (witnessLength sheetRows) (onWitness s (sheetN s) (sheetL s)) (witnessLength (sheetN s)),

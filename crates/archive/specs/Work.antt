@@ -3,7 +3,7 @@
 -- Lays            what the prover's part promises: its answer, and the transcript where it accepts
 -- Judgeable       what the point check has to be lent: elements, and as many as are due
 -- Checkable       the same with the circuit in place of the prepared circuit
--- Workable        two rows up to 256, as many challenges as a sheet has, which are elements, and a buffer of the text's length
+-- Workable        two rows up to 256, as many challenges as a sheet has, which are elements, blinders where e is 1 only, and a buffer of the text's length
 -- judgedFrom      the point verdict on a transcript, for the prepared circuit of lent selectors and labels
 -- checkedText     the lines of a transcript, and of the verdict on it
 -- THEOREMS
@@ -20,7 +20,7 @@
 use mathlib.Core.Path.{_≡_, refl, sym, ap, _∙_}
 use mathlib.Core.Logic.{_≢_}
 use mathlib.Core.Bool.{true, false, cond}
-use mathlib.Core.List.{List, _++_}
+use mathlib.Core.List.{List, [], _++_}
 use mathlib.Core.Option.{some}
 use Prim.Native.Nat.{ℕ, _≤_}
 use native.Mathlib.Omega.{arith}
@@ -35,7 +35,8 @@ use Rattle.field.specs.Domain.{domain}
 use Rattle.field.specs.Reasons.{answerOf, isAccepted}
 use Rattle.transform.specs.Transform.{scratchLength}
 use Rattle.circuit.specs.Circuit.{lentConstraints, lentPublic, lentWitness}
-use Rattle.circuit.specs.Buffers.{preparedLength, transcriptLength}
+use Rattle.circuit.specs.Buffers.{preparedLength, transcriptLength, workLength}
+use Rattle.circuit.specs.Parts.{blinded-of}
 use Rattle.circuit.specs.RightlyLent.{RightCircuit, prepare-taken, point-taken}
 use Rattle.protocol.specs.Protocol.{prepared, proved, PointVerdict, accept, reject, pointVerdict, proveReasons}
 use Rattle.protocol.specs.Layout.{prepared-elements, proved-elements}
@@ -52,28 +53,32 @@ use Rattle.sheet.specs.Sheet.{challengeCount}
 use Rattle.archive.specs.Printed.{judgedText, verdictText, transcriptText, textLength, workAnswerWith, workAnswer, workTranscript, workTextWith, workText}
 use Rattle.archive.specs.Lines.{Laid}
 
-pub record Lays (p n l : ℕ) (selectors labels witness publics challenges transcript : List ℕ) (r : Answer) (transcript' : List ℕ) : Type 0 where
-  pub answer : r ≡ workAnswer p n l selectors labels witness publics challenges
-  pub lays : some transcript' ≡ cond (isAccepted r) (provedFrom p n selectors labels witness publics (take 3 challenges)) (some transcript)
+pub record Lays (e p n l : ℕ) (selectors labels witness publics challenges blinders transcript : List ℕ) (r : Answer) (transcript' : List ℕ) : Type 0 where
+  pub answer : r ≡ workAnswer e p n l selectors labels witness publics challenges blinders
+  pub lays : some transcript' ≡ cond (isAccepted r) (provedFrom e p n selectors labels witness publics (take 3 challenges) blinders) (some transcript)
 
-pub record Judgeable (p n l : ℕ) (publics prepared transcript challenges : List ℕ) : Type 0 where
+pub record Judgeable (e p n l : ℕ) (publics prepared transcript challenges : List ℕ) : Type 0 where
+  pub blinded : e ≤ 1
   pub few : n ≤ 256
   pub admissible : Admissible p n
   pub publics-few : l ≤ n
   pub publics-right : Elements p l publics
   pub prepared-right : Elements p (preparedLength n) prepared
-  pub transcript-right : Elements p (transcriptLength n) transcript
+  pub transcript-right : Elements p (transcriptLength e n) transcript
   pub challenges-right : Elements p challengeCount challenges
 
-pub record Checkable (p n l : ℕ) (selectors labels publics transcript challenges : List ℕ) : Type 0 where
+pub record Checkable (e p n l : ℕ) (selectors labels publics transcript challenges : List ℕ) : Type 0 where
+  pub blinded : e ≤ 1
   pub few : n ≤ 256
   pub admissible : Admissible p n
   pub circuit-right : RightCircuit p n l selectors labels
   pub publics-right : Elements p l publics
-  pub transcript-right : Elements p (transcriptLength n) transcript
+  pub transcript-right : Elements p (transcriptLength e n) transcript
   pub challenges-right : Elements p challengeCount challenges
 
-pub record Workable (p n : ℕ) (challenges text : List ℕ) : Type 0 where
+pub record Workable (e p n : ℕ) (challenges blinders text : List ℕ) : Type 0 where
+  pub blinded : e ≤ 1
+  pub unblinded : e ≡ 0 → blinders ≡ []
   pub some : 2 ≤ n
   pub few : n ≤ 256
   pub challenges-right : Elements p challengeCount challenges
@@ -83,99 +88,100 @@ abbrev pub judgedFrom : ℕ → ℕ → List ℕ → List ℕ → List ℕ → L
 judgedFrom p n selectors labels publics transcript challenges =
     judgedAt p n publics (prepared p n (lentConstraints n selectors labels)) transcript challenges
 
-abbrev pub checkedText : ℕ → ℕ → List ℕ → List ℕ → List ℕ → List ℕ → List ℕ → List ℕ
-checkedText p n selectors labels publics transcript challenges =
-    transcriptText n transcript ++ judgedText (judgedFrom p n selectors labels publics transcript challenges)
+abbrev pub checkedText : ℕ → ℕ → ℕ → List ℕ → List ℕ → List ℕ → List ℕ → List ℕ → List ℕ
+checkedText e p n selectors labels publics transcript challenges =
+    transcriptText e n transcript ++ judgedText (judgedFrom p n selectors labels publics transcript challenges)
 
 -- THEOREMS
 
-pub work-reasons : (p n l : ℕ) (selectors labels witness publics transcript challenges scratch : List ℕ)
-    → length transcript ≡ transcriptLength n → length scratch ≡ scratchLength n
-    → answerOf (proveReasons p n l selectors labels witness publics transcript (take 3 challenges) scratch)
-    ≡ workAnswer p n l selectors labels witness publics challenges
+pub work-reasons : (e p n l : ℕ) (selectors labels witness publics transcript challenges blinders scratch : List ℕ)
+    → length transcript ≡ transcriptLength e n → length scratch ≡ workLength e n
+    → answerOf (proveReasons e p n l selectors labels witness publics transcript (take 3 challenges) blinders scratch)
+    ≡ workAnswer e p n l selectors labels witness publics challenges blinders
 unfolding workAnswerWith
-work-reasons p n l selectors labels witness publics transcript challenges scratch e f =
-    rw (e, f, length-replicate {A = ℕ} (transcriptLength n) 0, length-replicate {A = ℕ} (scratchLength n) 0)
+work-reasons e p n l selectors labels witness publics transcript challenges blinders scratch f g =
+    rw (f, g, length-replicate {A = ℕ} (transcriptLength e n) 0, length-replicate {A = ℕ} (workLength e n) 0)
 
 judged-verdict : (v : PointVerdict) → judgedText (judgedAs v) ≡ verdictText v
 judged-verdict accept = refl
 judged-verdict reject = refl
 
-module _ (p n l : ℕ) (selectors labels witness publics challenges : List ℕ) where
+module _ (e p n l : ℕ) (selectors labels witness publics challenges blinders : List ℕ) where
   pub lays-of : (transcript scratch : List ℕ) (r : Answer) (transcript' scratch' : List ℕ)
-      → length transcript ≡ transcriptLength n → length scratch ≡ scratchLength n
-      → Proves p n l selectors labels witness publics transcript (take 3 challenges) scratch r transcript' scratch'
-      → Lays p n l selectors labels witness publics challenges transcript r transcript'
-  lays-of transcript scratch r transcript' scratch' e f P =
+      → length transcript ≡ transcriptLength e n → length scratch ≡ workLength e n
+      → Proves e p n l selectors labels witness publics transcript (take 3 challenges) blinders scratch r transcript' scratch'
+      → Lays e p n l selectors labels witness publics challenges blinders transcript r transcript'
+  lays-of transcript scratch r transcript' scratch' f g P =
       record {
-        answer = P .answer ∙ work-reasons p n l selectors labels witness publics transcript challenges scratch e f;
+        answer = P .answer ∙ work-reasons e p n l selectors labels witness publics transcript challenges blinders scratch f g;
         lays = P .lays;
       }
 
-  accepted : workAnswer p n l selectors labels witness publics challenges .number ≡ 0
-      → Accepted p n l selectors labels witness publics (replicate (transcriptLength n) 0) (take 3 challenges) (replicate (scratchLength n) 0)
+  accepted : e ≤ 1 → (e ≡ 0 → blinders ≡ []) → workAnswer e p n l selectors labels witness publics challenges blinders .number ≡ 0
+      → Accepted e p n l selectors labels witness publics (replicate (transcriptLength e n) 0) (take 3 challenges) blinders (replicate (workLength e n) 0)
   unfolding workAnswerWith
-  accepted e = accepted-of p n l selectors labels witness publics _ (take 3 challenges) _ e
+  accepted small none is = accepted-of e p n l selectors labels witness publics _ (take 3 challenges) blinders _ small none is
 
   -- the challenges of the prover are the first three
-  first-three : (T : List ℕ) → provedFrom p n selectors labels witness publics (take 3 challenges) ≡ some T
-      → proved p n (lentConstraints n selectors labels) (lentPublic publics) (lentWitness n witness) (getD challenges 0 0) (getD challenges 1 0) (getD challenges 2 0) ≡ some T
-  first-three T e =
-      rw (getD-take 3 challenges 0 0 (omega arith), getD-take 3 challenges 1 0 (omega arith), getD-take 3 challenges 2 0 (omega arith)) at e
+  first-three : (T : List ℕ) → provedFrom e p n selectors labels witness publics (take 3 challenges) blinders ≡ some T
+      → proved e p n (lentConstraints n selectors labels) (lentPublic publics) (lentWitness n witness) blinders (getD challenges 0 0) (getD challenges 1 0) (getD challenges 2 0) ≡ some T
+  first-three T is =
+      rw (getD-take 3 challenges 0 0 (omega arith), getD-take 3 challenges 1 0 (omega arith), getD-take 3 challenges 2 0 (omega arith)) at is
 
-  pub work-laid : workAnswer p n l selectors labels witness publics challenges .number ≡ 0
-      → (T : List ℕ) × (workTranscript p n l selectors labels witness publics challenges ≡ some T)
-  work-laid e =
-      let A = accepted e in
+  pub work-laid : e ≤ 1 → (e ≡ 0 → blinders ≡ []) → workAnswer e p n l selectors labels witness publics challenges blinders .number ≡ 0
+      → (T : List ℕ) × (workTranscript e p n l selectors labels witness publics challenges blinders ≡ some T)
+  work-laid small none is =
+      let A = accepted small none is in
       let g = grand-product (domain p n (A .honest .admissible)) _ _ _ _ (A .no-zero) in
-      (_, taken _ (first-three _ (proved-laid p n _ _ _ _ (g .0) (g .1 .is) (lentPublic publics) _)))
+      (_, taken _ (first-three _ (proved-laid e p n _ _ blinders _ _ (g .0) (g .1 .is) (lentPublic publics) _)))
     where
       taken : (T : List ℕ)
-          → proved p n (lentConstraints n selectors labels) (lentPublic publics) (lentWitness n witness) (getD challenges 0 0) (getD challenges 1 0) (getD challenges 2 0) ≡ some T
-          → workTranscript p n l selectors labels witness publics challenges ≡ some T
-      taken T laid = rw (eq-eqb (workAnswer p n l selectors labels witness publics challenges .number) 0 e) laid
+          → proved e p n (lentConstraints n selectors labels) (lentPublic publics) (lentWitness n witness) blinders (getD challenges 0 0) (getD challenges 1 0) (getD challenges 2 0) ≡ some T
+          → workTranscript e p n l selectors labels witness publics challenges blinders ≡ some T
+      taken T laid = rw (eq-eqb (workAnswer e p n l selectors labels witness publics challenges blinders .number) 0 is) laid
 
   -- what is laid where the answer's number is 0
   pub laid-of : (transcript : List ℕ) (r : Answer) (transcript' : List ℕ)
-      → Lays p n l selectors labels witness publics challenges transcript r transcript' → r .number ≡ 0
-      → provedFrom p n selectors labels witness publics (take 3 challenges) ≡ some transcript'
-  laid-of transcript r transcript' L e =
-      let yes : isAccepted r ≡ true = eq-eqb (r .number) 0 e in
+      → Lays e p n l selectors labels witness publics challenges blinders transcript r transcript' → r .number ≡ 0
+      → provedFrom e p n selectors labels witness publics (take 3 challenges) blinders ≡ some transcript'
+  laid-of transcript r transcript' L is =
+      let yes : isAccepted r ≡ true = eq-eqb (r .number) 0 is in
       sym (rw yes at (L .lays))
 
   -- an accepted call, and the transcript that it laid
-  module _ (e : workAnswer p n l selectors labels witness publics challenges .number ≡ 0) (T : List ℕ)
-      (laid : provedFrom p n selectors labels witness publics (take 3 challenges) ≡ some T) where
-    pub checkable-of : (text : List ℕ) → Workable p n challenges text → Checkable p n l selectors labels publics T challenges
+  module _ (is : workAnswer e p n l selectors labels witness publics challenges blinders .number ≡ 0) (T : List ℕ)
+      (laid : provedFrom e p n selectors labels witness publics (take 3 challenges) blinders ≡ some T) where
+    pub checkable-of : (text : List ℕ) → Workable e p n challenges blinders text → Checkable e p n l selectors labels publics T challenges
     checkable-of text W =
-        let A = accepted e in
+        let A = accepted (W .blinded) (W .unblinded) is in
         record {
+          blinded = W .blinded;
           few = W .few;
           admissible = A .honest .admissible;
           circuit-right = A .honest .circuit-right;
           publics-right = A .honest .publics-right;
           transcript-right =
-              proved-elements (domain p n (A .honest .admissible)) (lentConstraints n selectors labels) (lentPublic publics) (lentWitness n witness) _ _ _ T
+              proved-elements (domain p n (A .honest .admissible)) e (lentConstraints n selectors labels) (lentPublic publics) (lentWitness n witness) blinders _ _ _ T
               (omega (arith, W .some))
               laid;
           challenges-right = W .challenges-right;
         }
 
-    pub proved-text : checkedText p n selectors labels publics T challenges ≡ workText p n l selectors labels witness publics challenges
+    pub proved-text : e ≤ 1 → length T ≡ transcriptLength e n → checkedText e p n selectors labels publics T challenges ≡ workText e p n l selectors labels witness publics challenges blinders
     unfolding workTextWith
-    proved-text =
+    proved-text small long =
         let verdict : PointVerdict =
-        pointVerdict p n (prepared p n (lentConstraints n selectors labels)) (lentPublic publics) T (getD challenges 0 0) (getD challenges 1 0) (getD challenges 2 0) (getD challenges 3 0) in
-        rw (eq-eqb (workAnswer p n l selectors labels witness publics challenges .number) 0 e, workTextWith, first-three T laid)
-        (ap (λ (u : List ℕ). transcriptText n T ++ u) (judged-verdict verdict))
+        pointVerdict e p n (prepared p n (lentConstraints n selectors labels)) (lentPublic publics) T (getD challenges 0 0) (getD challenges 1 0) (getD challenges 2 0) (getD challenges 3 0) in
+        rw (eq-eqb (workAnswer e p n l selectors labels witness publics challenges blinders .number) 0 is, workTextWith, first-three T laid, blinded-of e n T small long)
+        (ap (λ (u : List ℕ). transcriptText e n T ++ u) (judged-verdict verdict))
 
-  pub refused-text : (r : Answer) → r ≡ workAnswer p n l selectors labels witness publics challenges → r .number ≢ 0
-      → refusedText (r .number) (r .detail) ≡ workText p n l selectors labels witness publics challenges
+  pub refused-text : (r : Answer) → r ≡ workAnswer e p n l selectors labels witness publics challenges blinders → r .number ≢ 0
+      → refusedText (r .number) (r .detail) ≡ workText e p n l selectors labels witness publics challenges blinders
   unfolding workTextWith
-  refused-text r e h =
-      let no : isAccepted (workAnswer p n l selectors labels witness publics challenges) ≡ false =
-      ap isAccepted (sym e) ∙ ne-eqb (r .number) 0 h in
-      rw (no, workTextWith, e)
+  refused-text r is h =
+      let no : isAccepted (workAnswer e p n l selectors labels witness publics challenges blinders) ≡ false =
+      ap isAccepted (sym is) ∙ ne-eqb (r .number) 0 h in
+      rw (no, workTextWith, is)
 
 pub prepared-of : {p n l : ℕ} (selectors labels written scratch : List ℕ) (r : Answer) (written' scratch' : List ℕ)
     → Admissible p n → RightCircuit p n l selectors labels → length written ≡ preparedLength n → length scratch ≡ scratchLength n
@@ -186,20 +192,21 @@ prepared-of {p} {n} {l} selectors labels written scratch r written' scratch' A C
     ∙ ap (λ (a : Answer). cond (isAccepted a) (prepared p n (lentConstraints n selectors labels)) written)
     (P .answer ∙ prepare-taken A written scratch C e f)
 
-pub judged-of : {p n l : ℕ} {publics prepared transcript challenges : List ℕ} (scratch : List ℕ) (r : PointAnswer) (scratch' : List ℕ)
-    → Judgeable p n l publics prepared transcript challenges → length scratch ≡ scratchLength n
+pub judged-of : {e p n l : ℕ} {publics prepared transcript challenges : List ℕ} (scratch : List ℕ) (r : PointAnswer) (scratch' : List ℕ)
+    → Judgeable e p n l publics prepared transcript challenges → length scratch ≡ workLength e n
     → PointChecks p n l publics prepared transcript challenges scratch r scratch'
     → r .verdict ≡ judgedAt p n publics prepared transcript challenges
-judged-of {p} {n} {l} {publics} {prepared} {transcript} {challenges} scratch r scratch' J e P =
+judged-of {e} {p} {n} {l} {publics} {prepared} {transcript} {challenges} scratch r scratch' J long P =
     P .verdict
     ∙ ap (λ (a : Answer). cond (isAccepted a) (judgedAt p n publics prepared transcript challenges) None)
-    (P .answer ∙ point-taken (J .admissible) scratch (J .publics-few) (J .publics-right) (J .prepared-right) (J .transcript-right) (J .challenges-right) e)
+    (P .answer ∙ point-taken (J .admissible) e scratch (J .blinded) (J .publics-few) (J .publics-right) (J .prepared-right) (J .transcript-right) (J .challenges-right) long)
 
-pub judgeable-of : {p n l : ℕ} {selectors labels publics transcript challenges : List ℕ}
-    → Checkable p n l selectors labels publics transcript challenges
-    → Judgeable p n l publics (prepared p n (lentConstraints n selectors labels)) transcript challenges
-judgeable-of {p} {n} {l} {selectors} {labels} {publics} {transcript} {challenges} K =
+pub judgeable-of : {e p n l : ℕ} {selectors labels publics transcript challenges : List ℕ}
+    → Checkable e p n l selectors labels publics transcript challenges
+    → Judgeable e p n l publics (prepared p n (lentConstraints n selectors labels)) transcript challenges
+judgeable-of {e} {p} {n} {l} {selectors} {labels} {publics} {transcript} {challenges} K =
     record {
+      blinded = K .blinded;
       few = K .few;
       admissible = K .admissible;
       publics-few = K .circuit-right .circuit .publics-few;
@@ -209,7 +216,7 @@ judgeable-of {p} {n} {l} {selectors} {labels} {publics} {transcript} {challenges
       challenges-right = K .challenges-right;
     }
 
-pub laid-lines : {p n l : ℕ} {selectors labels publics transcript challenges : List ℕ} (text : List ℕ)
-    → Checkable p n l selectors labels publics transcript challenges → length text ≡ textLength → Laid n transcript text
-laid-lines {p} {n} text K e =
-    record { some = rows-power p n (K .admissible .rows) .least; few = K .few; long = K .transcript-right .long; room = e }
+pub laid-lines : {e p n l : ℕ} {selectors labels publics transcript challenges : List ℕ} (text : List ℕ)
+    → Checkable e p n l selectors labels publics transcript challenges → length text ≡ textLength → Laid e n transcript text
+laid-lines {e} {p} {n} text K long =
+    record { blinded = K .blinded; some = rows-power p n (K .admissible .rows) .least; few = K .few; long = K .transcript-right .long; room = long }

@@ -3,12 +3,12 @@
 // The public call is `deposit`. It lends the sheet's numbers on from arrays of its own, which have room for 256 rows.
 ghost use mathlib.Core.Path.{_≡_};
 ghost use mathlib.Core.Bool.{true};
-ghost use Prim.Native.Nat.{_≤_};
-ghost use lib.ListN.{length, take};
+ghost use Prim.Native.Nat.{_*_, _≤_};
+ghost use lib.ListN.{length, take, drop};
 ghost use Rattle.field.specs.Fields.{isCurrent};
-ghost use Rattle.circuit.specs.Buffers.{selectorsLength, labelsLength, witnessLength};
+ghost use Rattle.circuit.specs.Buffers.{blinderCount, selectorsLength, labelsLength, witnessLength};
 ghost use Rattle.text.specs.Puts.{Puts};
-ghost use Rattle.sheet.specs.Sheet.{sheetP};
+ghost use Rattle.sheet.specs.Sheet.{challengeCount, drawnCount, sheetP};
 ghost use Rattle.archive.specs.Deposit.{depositText, Deposits};
 ghost use Rattle.archive.specs.Printed.{textLength, workText};
 ghost use Rattle.archive.specs.Work.{Workable};
@@ -27,8 +27,9 @@ pub struct Deposited {
     pub length: usize,
 }
 
-// The text of a sheet's numbers, which stand at the start of buffers with room for more.
+// The text of a sheet's numbers, which stand at the start of buffers with room for more; the blinding numbers, 9e of them, stand behind the challenges.
 fn print_read(
+    e: usize,
     p: u32,
     n: u32,
     l: u32,
@@ -36,19 +37,22 @@ fn print_read(
     labels: &[u32],
     witness: &[u32],
     publics: &[u32],
-    challenges: &[u32],
+    drawn: &[u32],
     text: &mut [u8],
 ) -> usize
-    requires { ⌜ Workable p n (now challenges) (now text) ⌝ }
+    requires { ⌜ Workable e p n (take challengeCount (now drawn)) (take (blinderCount * e) (drop challengeCount (now drawn))) (now text) × (length (now drawn) ≡ drawnCount) ⌝ }
     requires { ⌜ (selectorsLength n ≤ length (now selectors)) × (labelsLength n ≤ length (now labels)) × (witnessLength n ≤ length (now witness)) × (l ≤ length (now publics)) ⌝ }
-    ensures { λ r. ⌜ Puts 0 (workText p n l (take (selectorsLength n) (now (selectors .entry))) (take (labelsLength n) (now (labels .entry))) (take (witnessLength n) (now (witness .entry))) (take l (now (publics .entry))) (now (challenges .entry))) (now (text .entry)) r (now (text .exit)) ⌝ }
+    ensures { λ r. ⌜ Puts 0 (workText e p n l (take (selectorsLength n) (now (selectors .entry))) (take (labelsLength n) (now (labels .entry))) (take (witnessLength n) (now (witness .entry))) (take l (now (publics .entry))) (take challengeCount (now (drawn .entry))) (take (blinderCount * e) (drop challengeCount (now (drawn .entry))))) (now (text .entry)) r (now (text .exit)) ⌝ }
 {
     let m = n as usize;
     let selectors_end = circuit::selectors_length(m);
     let labels_end = circuit::labels_length(m);
     let witness_end = circuit::witness_length(m);
     let publics_end = l as usize;
+    let four = sheet::CHALLENGE_COUNT;
+    let last = four + circuit::BLINDER_COUNT * e;
     work::print_work(
+        e,
         p,
         n,
         l,
@@ -56,7 +60,8 @@ fn print_read(
         &labels[..labels_end],
         &witness[..witness_end],
         &publics[..publics_end],
-        challenges,
+        &drawn[..four],
+        &drawn[four..last],
         text,
     )
 }
@@ -70,20 +75,22 @@ fn print_current(sheet: &[u8], text: &mut [u8]) -> usize
     let mut labels = rooms::positions_room();
     let mut witness = rooms::positions_room();
     let mut publics = rooms::publics_room();
-    let mut challenges = rooms::challenges_room();
+    let mut drawn = rooms::drawn_room();
     let found = sheet::read(
         sheet,
         &mut selectors,
         &mut labels,
         &mut witness,
         &mut publics,
-        &mut challenges,
+        &mut drawn,
     );
     let answer = found.answer;
     let number = answer.number;
     let detail = answer.detail;
     if number == 0 {
+        let e = sheet::blinder_lines(found.blinded);
         return print_read(
+            e,
             found.p,
             found.n,
             found.l,
@@ -91,7 +98,7 @@ fn print_current(sheet: &[u8], text: &mut [u8]) -> usize
             &labels,
             &witness,
             &publics,
-            &challenges,
+            &drawn,
             text,
         );
     }

@@ -41,19 +41,19 @@ pub fn put_rest(z: &[u32], t: &[u32], out: &mut [u8], at: usize) -> usize
 }
 
 // The lines of the five polynomials of a transcript, at the buffer's start.
-pub fn put_transcript(m: usize, transcript: &[u32], out: &mut [u8]) -> usize
-    requires { ⌜ Laid m (now transcript) (now out) ⌝ }
-    ensures { λ r. ⌜ Puts 0 (transcriptText m (now (transcript .entry))) (now (out .entry)) r (now (out .exit)) ⌝ }
+pub fn put_transcript(e: usize, m: usize, transcript: &[u32], out: &mut [u8]) -> usize
+    requires { ⌜ Laid e m (now transcript) (now out) ⌝ }
+    ensures { λ r. ⌜ Puts 0 (transcriptText e m (now (transcript .entry))) (now (out .entry)) r (now (out .exit)) ⌝ }
 {
     let next = put_wires(
-        circuit::wire_part(m, 0, transcript),
-        circuit::wire_part(m, 1, transcript),
-        circuit::wire_part(m, 2, transcript),
+        circuit::wire_part(e, m, 0, transcript),
+        circuit::wire_part(e, m, 1, transcript),
+        circuit::wire_part(e, m, 2, transcript),
         out,
     );
     put_rest(
-        circuit::z_part(m, transcript),
-        circuit::t_part(m, transcript),
+        circuit::z_part(e, m, transcript),
+        circuit::t_part(e, m, transcript),
         out,
         next,
     )

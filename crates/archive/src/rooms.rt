@@ -2,7 +2,7 @@
 ghost use mathlib.Core.Path.{_≡_};
 ghost use lib.ListN.{length};
 ghost use Rattle.circuit.specs.Buffers.{selectorsLength, labelsLength, preparedLength};
-ghost use Rattle.sheet.specs.Sheet.{sheetRows, challengeCount};
+ghost use Rattle.sheet.specs.Sheet.{sheetRows, drawnCount};
 ghost use Rattle.archive.specs.Printed.{textLength};
 ghost use Rattle.archive.specs.Rooms.{scratchRoom, transcriptRoom};
 
@@ -47,11 +47,11 @@ pub fn publics_room() -> [u32; ROWS]
     [0; ROWS]
 }
 
-// The challenges.
-pub fn challenges_room() -> [u32; sheet::CHALLENGE_COUNT]
-    ensures { λ r. ⌜ challengeCount ≡ length r ⌝ }
+// The challenges, and the blinding numbers behind them.
+pub fn drawn_room() -> [u32; sheet::DRAWN_COUNT]
+    ensures { λ r. ⌜ drawnCount ≡ length r ⌝ }
 {
-    [0; sheet::CHALLENGE_COUNT]
+    [0; sheet::DRAWN_COUNT]
 }
 
 // A scratch.

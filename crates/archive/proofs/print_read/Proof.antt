@@ -1,20 +1,21 @@
 -- `archive::print_read` meets its contract: what stands at the start of each buffer is lent on. Assumes nothing.
 use mathlib.Core.Path.{_≡_, sym, subst}
 use mathlib.Core.List.{List}
-use Prim.Native.Nat.{ℕ}
+use Prim.Native.Nat.{ℕ, _*_}
 use native.Mathlib.Omega.{arith}
 use lib.ListN.{take}
 use lib.Seq.{length-take-le}
 use borrow.Author.Needs.{needs}
-use Rattle.circuit.specs.Buffers.{selectorsLength, labelsLength, witnessLength}
+use Rattle.circuit.specs.Buffers.{blinderCount, selectorsLength, labelsLength, witnessLength}
 use Rattle.archive.specs.Printed.{workText}
 use Rattle.text.specs.Puts.{Puts}
 use Rattle.archive.proofs.print_read.Statement.{statement}
 use Rattle.archive.proofs.print_read.Tie as tie
 
-cut : (p n l : ℕ) (s w v x c : List ℕ) {i j k : ℕ} → i ≡ selectorsLength n → j ≡ labelsLength n → k ≡ witnessLength n
-    → workText p n l (take i s) (take j w) (take k v) x c ≡ workText p n l (take (selectorsLength n) s) (take (labelsLength n) w) (take (witnessLength n) v) x c
-cut p n l s w v x c e f g = rw (e, f, g)
+cut : (e p n l : ℕ) (s w v x c d : List ℕ) {i j k m : ℕ} → i ≡ selectorsLength n → j ≡ labelsLength n → k ≡ witnessLength n → m ≡ blinderCount * e
+    → workText e p n l (take i s) (take j w) (take k v) x c (take m d)
+    ≡ workText e p n l (take (selectorsLength n) s) (take (labelsLength n) w) (take (witnessLength n) v) x c (take (blinderCount * e) d)
+cut e p n l s w v x c d f g h i = rw (f, g, h, i)
 
 selectors-length-requires : tie.Need-selectors-length-requires
 selectors-length-requires c κs = search needs

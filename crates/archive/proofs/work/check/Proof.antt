@@ -10,11 +10,11 @@ use Rattle.archive.proofs.work.check.Statement.{statement}
 use Rattle.archive.proofs.work.check.Tie as tie
 
 -- the scratch has room
-fits : (c : tie.After-scratch-room) → c .before .scratch-length .result ≤ length (c .scratch-room .result)
-fits c = omega (arith, c .scratch-room .ensures, c .before .scratch-length .ensures, c .before .before .before .before .before .before .pre .few)
+fits : (c : tie.After-scratch-room) → c .before .work-length .result ≤ length (c .scratch-room .result)
+fits c = omega (arith, c .scratch-room .ensures, c .before .work-length .ensures, c .before .before .before .before .before .before .pre .few)
 
-scratch-length-requires : tie.Need-scratch-length-requires
-scratch-length-requires c κs = search needs
+work-length-requires : tie.Need-work-length-requires
+work-length-requires c κs = search needs
 
 scratch-room-requires : tie.Need-scratch-room-requires
 scratch-room-requires c κs = search needs
@@ -29,13 +29,13 @@ check-point-requires : tie.Need-check-point-requires
 check-point-requires c κs = search needs
 
 returns : tie.Need-returns
-returns c = judged-of _ _ _ (c .before .before .before .before .before .before .before .before .before .pre) (length-take-le _ _ (fits (c .before .before .before)) ∙ c .before .before .before .before .scratch-length .ensures) (c .before .check-point .ensures)
+returns c = judged-of _ _ _ (c .before .before .before .before .before .before .before .before .before .pre) (length-take-le _ _ (fits (c .before .before .before)) ∙ c .before .before .before .before .work-length .ensures) (c .before .check-point .ensures)
 
 pub check-spec : {M : Type 1} → statement M
 check-spec =
     tie.close
     (tie.spec
-    scratch-length-requires
+    work-length-requires
     scratch-room-requires
     array-borrow-prefix-scratch
     slice-aggregate-check-point

@@ -60,7 +60,7 @@ check-requires : tie.Need-check-requires
 check-requires c κs =
     let s = start (c .before .before .before .before .before) in
     let a = s .args in
-    subst (λ (w : List ℕ). Judgeable (a .p) (a .n) (a .l) (a .publics .now) w (a .transcript .now) (a .challenges .now)) (sym (written (c .before .before))) (judgeable-of (s .pre))
+    subst (λ (w : List ℕ). Judgeable (a .e) (a .p) (a .n) (a .l) (a .publics .now) w (a .transcript .now) (a .challenges .now)) (sym (written (c .before .before))) (judgeable-of (s .pre))
 
 returns : tie.Need-returns
 returns c =

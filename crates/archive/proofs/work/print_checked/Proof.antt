@@ -20,7 +20,7 @@ put-judged-requires : tie.Need-put-judged-requires
 put-judged-requires c κs =
     let s = c .before .before .before .before .before .before .before .before .before .before .before .before in
     let t = c .before .before .before .put-transcript in
-    omega (arith, t .ensures .place, t .kept, transcript-fits (s .args .n) (s .pre .0 .few) (s .args .transcript .now) (s .pre .0 .transcript-right .long), s .pre .1)
+    omega (arith, t .ensures .place, t .kept, transcript-fits (s .args .e) (s .args .n) (s .pre .0 .blinded) (s .pre .0 .few) (s .args .transcript .now) (s .pre .0 .transcript-right .long), s .pre .1)
 
 same-length : tie.Need-same-length
 same-length c = search needs
@@ -29,7 +29,7 @@ returns : tie.Need-returns
 returns c =
     let j = c .before .before .put-judged in
     puts-both (c .before .before .before .before .before .before .put-transcript .ensures)
-    (subst (λ (v : Judged). Puts (c .before .before .before .before .before .before .put-transcript .result) (judgedText v) (c .before .before .before .before .before .before .put-transcript .last .1 .1 .0) (j .result) (j .last .1 .0)) (c .before .before .before .before .before .before .before .before .judge .ensures) (j .ensures))
+    (subst (λ (v : Judged). Puts (c .before .before .before .before .before .before .put-transcript .result) (judgedText v) (c .before .before .before .before .before .before .put-transcript .last .1 .1 .1 .0) (j .result) (j .last .1 .0)) (c .before .before .before .before .before .before .before .before .judge .ensures) (j .ensures))
 
 pub print-checked-spec : {M : Type 1} → statement M
 print-checked-spec =

@@ -16,7 +16,7 @@ use Rattle.archive.proofs.work.print_work.Statement.{statement}
 use Rattle.archive.proofs.work.print_work.Tie as tie
 
 abbrev start : tie.After-transcript-length → tie.Start
-start c = c .before .before .before .before .before .before .before
+start c = c .before .before .before .before .before .before .before .before
 
 -- the call behind what `lay` left
 abbrev call : tie.After-lay → tie.Start
@@ -24,29 +24,29 @@ call c = start (c .before .before .before)
 
 -- the array has room, and still has when it is written
 fits : (c : tie.After-transcript-room) → c .before .transcript-length .result ≤ length (c .transcript-room .result)
-fits c = omega (arith, c .transcript-room .ensures, c .before .transcript-length .ensures, start (c .before) .pre .few)
+fits c = omega (arith, c .transcript-room .ensures, c .before .transcript-length .ensures, start (c .before) .pre .few, start (c .before) .pre .blinded)
 
 -- the array after the prover, and the part of it that is lent on
 abbrev after : tie.After-lay → List ℕ
-after c = c .lay .last .1 .1 .1 .1 .1 .1 .1 .0 ++ drop (c .before .before .before .transcript-length .result) (c .before .before .transcript-room .result)
+after c = c .lay .last .1 .1 .1 .1 .1 .1 .1 .1 .0 ++ drop (c .before .before .before .transcript-length .result) (c .before .before .transcript-room .result)
 
 still-fits : (c : tie.After-lay) → c .before .before .before .transcript-length .result ≤ length (after c)
-still-fits c = front-fits (c .before .before .before .transcript-length .result) (c .before .before .transcript-room .result) (c .lay .last .1 .1 .1 .1 .1 .1 .1 .0) (fits (c .before .before)) (c .lay .kept .1 .1 .1 .1 .1 .1 .1 .0)
+still-fits c = front-fits (c .before .before .before .transcript-length .result) (c .before .before .transcript-room .result) (c .lay .last .1 .1 .1 .1 .1 .1 .1 .1 .0) (fits (c .before .before)) (c .lay .kept .1 .1 .1 .1 .1 .1 .1 .1 .0)
 
 -- the part that is lent on is what the prover laid
 abbrev lent : tie.After-lay → List ℕ
 lent c = take (c .before .before .before .transcript-length .result) (after c)
 
 is-laid : (c : tie.After-lay) → c .lay .result .number ≡ 0
-    → provedFrom (call c .args .p) (call c .args .n) (call c .args .selectors .now) (call c .args .labels .now) (call c .args .witness .now) (call c .args .publics .now) (take 3 (call c .args .challenges .now)) ≡ some (lent c)
+    → provedFrom (call c .args .e) (call c .args .p) (call c .args .n) (call c .args .selectors .now) (call c .args .labels .now) (call c .args .witness .now) (call c .args .publics .now) (take 3 (call c .args .challenges .now)) (call c .args .blinders .now) ≡ some (lent c)
 is-laid c e =
     let a = call c .args in
-    laid-of (a .p) (a .n) (a .l) (a .selectors .now) (a .labels .now) (a .witness .now) (a .publics .now) (a .challenges .now) _ _ _ (c .lay .ensures) e
+    laid-of (a .e) (a .p) (a .n) (a .l) (a .selectors .now) (a .labels .now) (a .witness .now) (a .publics .now) (a .challenges .now) (a .blinders .now) _ _ _ (c .lay .ensures) e
     ∙ ap {B = Option (List ℕ)} some
-    (sym (front-is (c .before .before .before .transcript-length .result) (c .before .before .transcript-room .result) (c .lay .last .1 .1 .1 .1 .1 .1 .1 .0) (fits (c .before .before)) (c .lay .kept .1 .1 .1 .1 .1 .1 .1 .0)))
+    (sym (front-is (c .before .before .before .transcript-length .result) (c .before .before .transcript-room .result) (c .lay .last .1 .1 .1 .1 .1 .1 .1 .1 .0) (fits (c .before .before)) (c .lay .kept .1 .1 .1 .1 .1 .1 .1 .1 .0)))
 
 taken : (c : tie.After-lay) → c .lay .result .number ≡ 0
-    → workAnswer (call c .args .p) (call c .args .n) (call c .args .l) (call c .args .selectors .now) (call c .args .labels .now) (call c .args .witness .now) (call c .args .publics .now) (call c .args .challenges .now) .number ≡ 0
+    → workAnswer (call c .args .e) (call c .args .p) (call c .args .n) (call c .args .l) (call c .args .selectors .now) (call c .args .labels .now) (call c .args .witness .now) (call c .args .publics .now) (call c .args .challenges .now) (call c .args .blinders .now) .number ≡ 0
 taken c e = ap (λ r. r .number) (sym (c .lay .ensures .answer)) ∙ e
 
 transcript-length-requires : tie.Need-transcript-length-requires
@@ -64,7 +64,7 @@ slice-aggregate-lay c = sym (length-take-le _ _ (fits (c .before)))
 lay-requires : tie.Need-lay-requires
 lay-requires c κs =
     let s = start (c .before .before) in
-    (s .pre .few, omega (arith, s .pre .challenges-right .long), length-take-le _ _ (fits (c .before)) ∙ c .before .before .transcript-length .ensures)
+    ((s .pre .blinded, s .pre .unblinded), (s .pre .few, omega (arith, s .pre .challenges-right .long), length-take-le _ _ (fits (c .before)) ∙ c .before .before .transcript-length .ensures))
 
 array-share-prefix-transcript : tie.Need-array-share-prefix-transcript
 array-share-prefix-transcript c = still-fits (c .before .before)
@@ -78,7 +78,7 @@ print-checked-requires c κs =
     let s = call d in
     let a = s .args in
     let e = c .before .before .if1 .taken in
-    (checkable-of (a .p) (a .n) (a .l) (a .selectors .now) (a .labels .now) (a .witness .now) (a .publics .now) (a .challenges .now) (taken d e) (lent d) (is-laid d e) (a .text .now) (s .pre), s .pre .room)
+    (checkable-of (a .e) (a .p) (a .n) (a .l) (a .selectors .now) (a .labels .now) (a .witness .now) (a .publics .now) (a .challenges .now) (a .blinders .now) (taken d e) (lent d) (is-laid d e) (a .text .now) (s .pre), s .pre .room)
 
 same-length : tie.Need-same-length
 same-length c = search needs
@@ -89,8 +89,9 @@ returns c =
     let a = call d .args in
     let e = c .before .before .before .before .before .if1 .taken in
     let t = c .before .before .print-checked in
-    subst (λ (b : List ℕ). Puts 0 b (a .text .now) (t .result) (t .last .1 .1 .1 .1 .1 .1 .1 .1 .0))
-    (proved-text (a .p) (a .n) (a .l) (a .selectors .now) (a .labels .now) (a .witness .now) (a .publics .now) (a .challenges .now) (taken d e) (lent d) (is-laid d e))
+    subst (λ (b : List ℕ). Puts 0 b (a .text .now) (t .result) (t .last .1 .1 .1 .1 .1 .1 .1 .1 .1 .0))
+    (proved-text (a .e) (a .p) (a .n) (a .l) (a .selectors .now) (a .labels .now) (a .witness .now) (a .publics .now) (a .challenges .now) (a .blinders .now) (taken d e) (lent d) (is-laid d e) (call d .pre .blinded)
+    (length-take-le _ _ (still-fits d) ∙ d .before .before .before .transcript-length .ensures))
     (t .ensures)
 
 put-refused-requires : tie.Need-put-refused-requires
@@ -104,7 +105,7 @@ returns-2 c =
     let a = call (c .before .before .before .before .before .before) .args in
     let t = c .before .before .put-refused in
     subst (λ (b : List ℕ). Puts 0 b (a .text .now) (t .result) (t .last .1 .1 .0))
-    (refused-text (a .p) (a .n) (a .l) (a .selectors .now) (a .labels .now) (a .witness .now) (a .publics .now) (a .challenges .now) _ (c .before .before .before .before .before .before .lay .ensures .answer) (c .before .before .before .before .if1 .left))
+    (refused-text (a .e) (a .p) (a .n) (a .l) (a .selectors .now) (a .labels .now) (a .witness .now) (a .publics .now) (a .challenges .now) (a .blinders .now) _ (c .before .before .before .before .before .before .lay .ensures .answer) (c .before .before .before .before .if1 .left))
     (t .ensures)
 
 pub print-work-spec : {M : Type 1} → statement M
