@@ -3,3 +3,4 @@ pub mod Promises
 pub mod Buffers
 pub mod Chain
 pub mod Refusals
+pub mod FiveProved
