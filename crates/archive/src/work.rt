@@ -41,7 +41,7 @@ fn lay(
     let end = circuit::work_length(e, m);
     let three = 3;
     let mut scratch = rooms::scratch_room();
-    prover::prove_by(
+    prover::run(
         e,
         p,
         n,

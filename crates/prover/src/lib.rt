@@ -169,7 +169,7 @@ fn work(
 }
 
 // A whole call: the decision, and the work where no reason applies.
-fn run(
+pub fn run(
     e: usize,
     p: u32,
     n: u32,

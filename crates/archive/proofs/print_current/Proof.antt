@@ -1,12 +1,14 @@
 -- `archive::print_current` meets its contract: what is read is printed, or the refusal is. Assumes nothing.
 use mathlib.Core.Path.{_≡_, subst}
 use mathlib.Core.Logic.{_≢_}
+use mathlib.Core.Bool.{cond}
 use mathlib.Core.List.{List}
-use Prim.Native.Nat.{ℕ, _≤_}
+use Prim.Native.Nat.{ℕ, _*_, _≤_}
 use native.Mathlib.Omega.{arith}
-use lib.ListN.{take}
+use lib.ListN.{take, drop}
 use borrow.Author.Needs.{needs}
-use Rattle.circuit.specs.Buffers.{selectorsLength, labelsLength, witnessLength}
+use Rattle.circuit.specs.Buffers.{blinderCount, selectorsLength, labelsLength, witnessLength}
+use Rattle.sheet.specs.Sheet.{challengeCount}
 use Rattle.text.specs.Text.{refusedText}
 use Rattle.archive.specs.Printed.{workText}
 use Rattle.text.specs.Puts.{Puts}
@@ -20,31 +22,35 @@ abbrev start : tie.After-read → tie.Start
 start c = c .before .before .before .before .before .before .before .before .before .before .before .before .before
 
 -- the arrays have the lengths that are due
-arrays : (c : tie.After-read) → Arrays (c .before .before .before .before .before .before .before .before .before .before .selectors-room .result) (c .before .before .before .before .before .before .before .before .before .positions-room .result) (c .before .before .before .before .before .before .before .before .positions-room2 .result) (c .before .before .before .before .before .before .before .publics-room .result) (c .before .before .before .before .before .before .challenges-room .result)
+arrays : (c : tie.After-read) → Arrays (c .before .before .before .before .before .before .before .before .before .before .selectors-room .result) (c .before .before .before .before .before .before .before .before .before .positions-room .result) (c .before .before .before .before .before .before .before .before .positions-room2 .result) (c .before .before .before .before .before .before .before .publics-room .result) (c .before .before .before .before .before .before .drawn-room .result)
 arrays c =
     record {
       selectors-long = c .before .before .before .before .before .before .before .before .before .before .selectors-room .ensures;
       labels-long = c .before .before .before .before .before .before .before .before .before .positions-room .ensures;
       witness-long = c .before .before .before .before .before .before .before .before .positions-room2 .ensures;
       publics-long = c .before .before .before .before .before .before .before .publics-room .ensures;
-      challenges-long = c .before .before .before .before .before .before .challenges-room .ensures;
+      drawn-long = c .before .before .before .before .before .before .drawn-room .ensures;
     }
 
-workable : (c : tie.After-read) → c .read .result .answer .number ≡ 0 → Workable (c .read .result .p) (c .read .result .n) (c .read .last .1 .1 .1 .1 .1 .0) (start c .args .text .now)
-workable c e = sheet-workable (start c .args .sheet .now) (c .before .before .before .before .before .before .before .before .before .before .selectors-room .result) (c .before .before .before .before .before .before .before .before .before .positions-room .result) (c .before .before .before .before .before .before .before .before .positions-room2 .result) (c .before .before .before .before .before .before .before .publics-room .result) (c .before .before .before .before .before .before .challenges-room .result) (c .read .result) (c .read .last .1 .0) (c .read .last .1 .1 .0) (c .read .last .1 .1 .1 .0) (c .read .last .1 .1 .1 .1 .0) (c .read .last .1 .1 .1 .1 .1 .0) (c .read .ensures) (arrays c) (start c .pre .1) e (start c .args .text .now) (start c .pre .0)
+-- how many lines of blinding numbers the sheet has
+abbrev lines : tie.After-read → ℕ
+lines c = cond (c .read .result .blinded) 1 0
+
+workable : (c : tie.After-read) → c .read .result .answer .number ≡ 0 → Workable (lines c) (c .read .result .p) (c .read .result .n) (take challengeCount (c .read .last .1 .1 .1 .1 .1 .0)) (take (blinderCount * lines c) (drop challengeCount (c .read .last .1 .1 .1 .1 .1 .0))) (start c .args .text .now)
+workable c e = sheet-workable (start c .args .sheet .now) (c .before .before .before .before .before .before .before .before .before .before .selectors-room .result) (c .before .before .before .before .before .before .before .before .before .positions-room .result) (c .before .before .before .before .before .before .before .before .positions-room2 .result) (c .before .before .before .before .before .before .before .publics-room .result) (c .before .before .before .before .before .before .drawn-room .result) (c .read .result) (c .read .last .1 .0) (c .read .last .1 .1 .0) (c .read .last .1 .1 .1 .0) (c .read .last .1 .1 .1 .1 .0) (c .read .last .1 .1 .1 .1 .1 .0) (c .read .ensures) (arrays c) (start c .pre .1) e (start c .args .text .now) (start c .pre .0)
 
 -- n and l are small, so that the arrays have room
 few : (c : tie.After-read) → c .read .result .answer .number ≡ 0 → (c .read .result .n ≤ 256) × (c .read .result .l ≤ 256)
-few c e = (rows-few (start c .args .sheet .now) (c .before .before .before .before .before .before .before .before .before .before .selectors-room .result) (c .before .before .before .before .before .before .before .before .before .positions-room .result) (c .before .before .before .before .before .before .before .before .positions-room2 .result) (c .before .before .before .before .before .before .before .publics-room .result) (c .before .before .before .before .before .before .challenges-room .result) (c .read .result) (c .read .last .1 .0) (c .read .last .1 .1 .0) (c .read .last .1 .1 .1 .0) (c .read .last .1 .1 .1 .1 .0) (c .read .last .1 .1 .1 .1 .1 .0) (c .read .ensures) (arrays c) (start c .pre .1) e, publics-few (start c .args .sheet .now) (c .before .before .before .before .before .before .before .before .before .before .selectors-room .result) (c .before .before .before .before .before .before .before .before .before .positions-room .result) (c .before .before .before .before .before .before .before .before .positions-room2 .result) (c .before .before .before .before .before .before .before .publics-room .result) (c .before .before .before .before .before .before .challenges-room .result) (c .read .result) (c .read .last .1 .0) (c .read .last .1 .1 .0) (c .read .last .1 .1 .1 .0) (c .read .last .1 .1 .1 .1 .0) (c .read .last .1 .1 .1 .1 .1 .0) (c .read .ensures) (arrays c) (start c .pre .1) e)
+few c e = (rows-few (start c .args .sheet .now) (c .before .before .before .before .before .before .before .before .before .before .selectors-room .result) (c .before .before .before .before .before .before .before .before .before .positions-room .result) (c .before .before .before .before .before .before .before .before .positions-room2 .result) (c .before .before .before .before .before .before .before .publics-room .result) (c .before .before .before .before .before .before .drawn-room .result) (c .read .result) (c .read .last .1 .0) (c .read .last .1 .1 .0) (c .read .last .1 .1 .1 .0) (c .read .last .1 .1 .1 .1 .0) (c .read .last .1 .1 .1 .1 .1 .0) (c .read .ensures) (arrays c) (start c .pre .1) e, publics-few (start c .args .sheet .now) (c .before .before .before .before .before .before .before .before .before .before .selectors-room .result) (c .before .before .before .before .before .before .before .before .before .positions-room .result) (c .before .before .before .before .before .before .before .before .positions-room2 .result) (c .before .before .before .before .before .before .before .publics-room .result) (c .before .before .before .before .before .before .drawn-room .result) (c .read .result) (c .read .last .1 .0) (c .read .last .1 .1 .0) (c .read .last .1 .1 .1 .0) (c .read .last .1 .1 .1 .1 .0) (c .read .last .1 .1 .1 .1 .1 .0) (c .read .ensures) (arrays c) (start c .pre .1) e)
 
 text-read : (c : tie.After-read) → c .read .result .answer .number ≡ 0
-    → workText (c .read .result .p) (c .read .result .n) (c .read .result .l) (take (selectorsLength (c .read .result .n)) (c .read .last .1 .0)) (take (labelsLength (c .read .result .n)) (c .read .last .1 .1 .0)) (take (witnessLength (c .read .result .n)) (c .read .last .1 .1 .1 .0)) (take (c .read .result .l) (c .read .last .1 .1 .1 .1 .0)) (c .read .last .1 .1 .1 .1 .1 .0)
+    → workText (lines c) (c .read .result .p) (c .read .result .n) (c .read .result .l) (take (selectorsLength (c .read .result .n)) (c .read .last .1 .0)) (take (labelsLength (c .read .result .n)) (c .read .last .1 .1 .0)) (take (witnessLength (c .read .result .n)) (c .read .last .1 .1 .1 .0)) (take (c .read .result .l) (c .read .last .1 .1 .1 .1 .0)) (take challengeCount (c .read .last .1 .1 .1 .1 .1 .0)) (take (blinderCount * lines c) (drop challengeCount (c .read .last .1 .1 .1 .1 .1 .0)))
     ≡ depositText (start c .args .sheet .now)
-text-read c e = sheet-text (start c .args .sheet .now) (c .before .before .before .before .before .before .before .before .before .before .selectors-room .result) (c .before .before .before .before .before .before .before .before .before .positions-room .result) (c .before .before .before .before .before .before .before .before .positions-room2 .result) (c .before .before .before .before .before .before .before .publics-room .result) (c .before .before .before .before .before .before .challenges-room .result) (c .read .result) (c .read .last .1 .0) (c .read .last .1 .1 .0) (c .read .last .1 .1 .1 .0) (c .read .last .1 .1 .1 .1 .0) (c .read .last .1 .1 .1 .1 .1 .0) (c .read .ensures) (arrays c) (start c .pre .1) e
+text-read c e = sheet-text (start c .args .sheet .now) (c .before .before .before .before .before .before .before .before .before .before .selectors-room .result) (c .before .before .before .before .before .before .before .before .before .positions-room .result) (c .before .before .before .before .before .before .before .before .positions-room2 .result) (c .before .before .before .before .before .before .before .publics-room .result) (c .before .before .before .before .before .before .drawn-room .result) (c .read .result) (c .read .last .1 .0) (c .read .last .1 .1 .0) (c .read .last .1 .1 .1 .0) (c .read .last .1 .1 .1 .1 .0) (c .read .last .1 .1 .1 .1 .1 .0) (c .read .ensures) (arrays c) (start c .pre .1) e
 
 text-unread : (c : tie.After-read) → c .read .result .answer .number ≢ 0
     → refusedText (c .read .result .answer .number) (c .read .result .answer .detail) ≡ depositText (start c .args .sheet .now)
-text-unread c h = unread-text (start c .args .sheet .now) (c .before .before .before .before .before .before .before .before .before .before .selectors-room .result) (c .before .before .before .before .before .before .before .before .before .positions-room .result) (c .before .before .before .before .before .before .before .before .positions-room2 .result) (c .before .before .before .before .before .before .before .publics-room .result) (c .before .before .before .before .before .before .challenges-room .result) (c .read .result) (c .read .last .1 .0) (c .read .last .1 .1 .0) (c .read .last .1 .1 .1 .0) (c .read .last .1 .1 .1 .1 .0) (c .read .last .1 .1 .1 .1 .1 .0) (c .read .ensures) (arrays c) (start c .pre .1) h
+text-unread c h = unread-text (start c .args .sheet .now) (c .before .before .before .before .before .before .before .before .before .before .selectors-room .result) (c .before .before .before .before .before .before .before .before .before .positions-room .result) (c .before .before .before .before .before .before .before .before .positions-room2 .result) (c .before .before .before .before .before .before .before .publics-room .result) (c .before .before .before .before .before .before .drawn-room .result) (c .read .result) (c .read .last .1 .0) (c .read .last .1 .1 .0) (c .read .last .1 .1 .1 .0) (c .read .last .1 .1 .1 .1 .0) (c .read .last .1 .1 .1 .1 .1 .0) (c .read .ensures) (arrays c) (start c .pre .1) h
 
 selectors-room-requires : tie.Need-selectors-room-requires
 selectors-room-requires c κs = search needs
@@ -58,8 +64,8 @@ positions-room-requires-2 c κs = search needs
 publics-room-requires : tie.Need-publics-room-requires
 publics-room-requires c κs = search needs
 
-challenges-room-requires : tie.Need-challenges-room-requires
-challenges-room-requires c κs = search needs
+drawn-room-requires : tie.Need-drawn-room-requires
+drawn-room-requires c κs = search needs
 
 slice-aggregate-read : tie.Need-slice-aggregate-read
 slice-aggregate-read c = search needs
@@ -139,7 +145,7 @@ print-current-spec =
     positions-room-requires
     positions-room-requires-2
     publics-room-requires
-    challenges-room-requires
+    drawn-room-requires
     slice-aggregate-read
     slice-aggregate-read-2
     slice-aggregate-read-3

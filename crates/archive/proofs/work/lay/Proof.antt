@@ -19,17 +19,17 @@ work-length-requires c κs = search needs
 scratch-room-requires : tie.Need-scratch-room-requires
 scratch-room-requires c κs = search needs
 
-slice-aggregate-prove-by : tie.Need-slice-aggregate-prove-by
-slice-aggregate-prove-by c = sym (length-take-le 3 (c .before .before .before .before .before .before .before .before .before .before .before .args .challenges .now) (c .before .before .before .before .before .before .before .before .before .before .before .pre .1 .1))
+slice-aggregate-run : tie.Need-slice-aggregate-run
+slice-aggregate-run c = sym (length-take-le 3 (c .before .before .before .before .before .before .before .before .before .before .before .args .challenges .now) (c .before .before .before .before .before .before .before .before .before .before .before .pre .1 .1))
 
 array-borrow-prefix-scratch : tie.Need-array-borrow-prefix-scratch
 array-borrow-prefix-scratch c = search needs
 
-slice-aggregate-prove-by-2 : tie.Need-slice-aggregate-prove-by-2
-slice-aggregate-prove-by-2 c = sym (length-take-le _ _ (fits (c .before .before .before)))
+slice-aggregate-run-2 : tie.Need-slice-aggregate-run-2
+slice-aggregate-run-2 c = sym (length-take-le _ _ (fits (c .before .before .before)))
 
-prove-by-requires : tie.Need-prove-by-requires
-prove-by-requires c κs = search needs
+run-requires : tie.Need-run-requires
+run-requires c κs = search needs
 
 same-length : tie.Need-same-length
 same-length c = search needs
@@ -41,7 +41,7 @@ returns c =
     lays-of (a .e) (a .p) (a .n) (a .l) (a .selectors .now) (a .labels .now) (a .witness .now) (a .publics .now) (a .challenges .now) (a .blinders .now) _ _ _ _ _
     (s .pre .1 .2)
     (length-take-le _ _ (fits (c .before .before .before .before .before .before .before)) ∙ c .before .before .before .before .before .before .before .before .work-length .ensures)
-    (c .before .before .before .prove-by .ensures)
+    (c .before .before .before .run .ensures)
 
 pub lay-spec : {M : Type 1} → statement M
 lay-spec =
@@ -49,9 +49,9 @@ lay-spec =
     (tie.spec
     work-length-requires
     scratch-room-requires
-    slice-aggregate-prove-by
+    slice-aggregate-run
     array-borrow-prefix-scratch
-    slice-aggregate-prove-by-2
-    prove-by-requires
+    slice-aggregate-run-2
+    run-requires
     same-length
     returns)
