@@ -80,7 +80,7 @@ pub fn begins(line: &[u8], byte: u8) -> bool {
 // where there is none.
 pub fn marked(s: &[u8], i: usize) -> usize {
     let mut left = i;
-    for k in 2..9 {
+    for k in 2..10 {
         if begins(line(s, k), b'?') {
             if left == 0 {
                 return k;
@@ -88,7 +88,7 @@ pub fn marked(s: &[u8], i: usize) -> usize {
             left -= 1;
         }
     }
-    9
+    10
 }
 
 // The line without its first byte; an empty one as it is.

@@ -9,7 +9,7 @@ marked-spec =
     tie.close
     (tie.spec
     (λ s i left₀ k₀ left k. 2 ≤ k)
-    (λ s i left₀ k₀ left k. 9 - k)
+    (λ s i left₀ k₀ left k. 10 - k)
     (λ c. search needs)
     (λ c κs. search needs)
     (λ c κs. search needs)
