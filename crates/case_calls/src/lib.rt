@@ -1,6 +1,6 @@
 // The calls that are lent words, an arm each: a call that is added is one arm more.
 //
-// The letters a to f are its first six buffers, lent to be read; x, y and z are those that it may write, in their order. `open` asks one lifetime of its
+// The letters a to g are its first seven buffers, lent to be read; x, y and z are those that it may write, in their order. `open` asks one lifetime of its
 // first two.
 use blocks::lines::is;
 
@@ -49,6 +49,7 @@ pub fn make<'a>(
     d: &[u32],
     e: &[u32],
     f: &[u32],
+    g: &[u32],
     x: &mut [u32],
     y: &mut [u32],
     z: &mut [u32],
@@ -69,6 +70,8 @@ pub fn make<'a>(
         exports::guppyspoon_check_opening(p, n, a, b, c, d, e, f, x, answer);
     } else if is(name, b"prove") {
         exports::guppyspoon_prove(p, n, l, a, b, c, d, x, f, y, answer);
+    } else if is(name, b"prove_blinded") {
+        exports::guppyspoon_prove_blinded(p, n, l, a, b, c, d, x, f, g, y, answer);
     } else {
         make_small(name, p, n, a, b, x, y, answer);
     }

@@ -40,7 +40,7 @@ pub fn join(s: &[u8]) {
 
 // The call `read` of a block.
 pub fn read(s: &[u8]) {
-    let mut answer = [MARK; 6];
+    let mut answer = [MARK; 7];
     let sheet = laid(line(s, 2));
     let mut b = buffers::laid(line(s, 3));
     let mut c = buffers::laid(line(s, 4));
