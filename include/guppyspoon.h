@@ -12,12 +12,16 @@
  * What the caller sees to: no buffer overlaps one that is written, no pointer is null, even with length 0, pointers to words are aligned as words,
  * and each buffer has the length that is passed with it. A wrong length is no fault of this kind: it is refused (reason 6).
  *
- * p is a prime: 17, 97 or 2013265921. 97 is retired: guppyspoon_prove, guppyspoon_deposit and guppyspoon_join take no new sheets in it (reason 16), and
- * every other call takes it as the other two, so that what is filed in it can be read, prepared, opened and checked. An element is a number below p. n is the number of rows, a power of two, from 2 to the greatest for its prime.
+ * p is a prime: 17, 97 or 2013265921. 97 is retired: guppyspoon_prove, guppyspoon_prove_blinded, guppyspoon_deposit and guppyspoon_join take no new
+ * sheets in it (reason 16), and every other call takes it as the other two, so that what is filed in it can be read, prepared, opened and checked.
+ * An element is a number below p. n is the number of rows, a power of two, from 2 to the greatest for its prime.
  * l is the number of public inputs, 0 to n. A row below l must be a public row: its qL is 1 and its other selectors are 0, so that its gate says that
  * a is the public input. Selectors and labels stand column after column: qL of every row, then qR, and so on. The witness stands row by row: a, b, c of
  * row 0, then of row 1, and so on, so that the number of position column * n + row is at place 3 * row + column. (Before, it stood column after
  * column: guppyspoon_to_rows and guppyspoon_to_columns take it from one layout to the other.) A polynomial is its coefficients, lowest first.
+ * A transcript is unblinded, as guppyspoon_prove lays it, or blinded, as guppyspoon_prove_blinded lays it from nine further numbers, and then longer.
+ * The calls that are lent a transcript take either, and its length alone decides which it is: where it is the longer, so are the opening and the
+ * scratch, and "or" parts the two lengths below. A transcript of neither length is refused (reason 6, its own place).
  * "Buffers" below are in the order in which reason 6 counts them, from 1; `answer` is not counted. Those marked "written" may hold anything
  * before the call. `scratch` is the call's working area and holds zeros after an accepted call.
  */
@@ -50,12 +54,21 @@ extern "C" {
 #define GUPPYSPOON_OPENING_LENGTH(n) (3 * (size_t)(n) - 4)    /* one polynomial; n is 2 or more */
 #define GUPPYSPOON_SCRATCH_LENGTH(n) (16 * (size_t)(n))
 
+/* The same where the transcript is blinded. */
+#define GUPPYSPOON_BLINDED_TRANSCRIPT_LENGTH(n) (7 * (size_t)(n) + 15) /* a, b, c of n + 2 coefficients each, z of n + 3, then t of 3n + 6 */
+#define GUPPYSPOON_BLINDED_OPENING_LENGTH(n) (3 * (size_t)(n) + 5)
+#define GUPPYSPOON_BLINDED_SCRATCH_LENGTH(n) (16 * (size_t)(n) + 64)
+
+/* The numbers that a transcript is blinded with: b1, b2 for a, b3, b4 for b, b5, b6 for c, and b7, b8, b9 for z. */
+#define GUPPYSPOON_BLINDERS_LENGTH 9
+
 /* The most numbers of a list of polynomials. The polynomials are numbered 0 to 7 (prepared, in its order), 8 to 10 (a, b, c), 11 (z), 12 (t). */
 #define GUPPYSPOON_LIST_MOST_LENGTH 13
 
 /* The challenges of each call that has them. */
 #define GUPPYSPOON_CHECK_ROWS_CHALLENGES 2    /* beta, gamma */
 #define GUPPYSPOON_PROVE_CHALLENGES 3         /* beta, gamma, alpha */
+#define GUPPYSPOON_PROVE_BLINDED_CHALLENGES 3 /* the same */
 #define GUPPYSPOON_CHECK_POINT_CHALLENGES 4   /* beta, gamma, alpha, zeta */
 #define GUPPYSPOON_OPEN_CHALLENGES 2          /* the point, the mixing number m */
 #define GUPPYSPOON_CHECK_OPENING_CHALLENGES 2 /* the same */
@@ -70,7 +83,7 @@ extern "C" {
 #define GUPPYSPOON_SHEET_LABELS_LENGTH 768
 #define GUPPYSPOON_SHEET_WITNESS_LENGTH 768
 #define GUPPYSPOON_SHEET_PUBLICS_LENGTH 256
-#define GUPPYSPOON_SHEET_CHALLENGES_LENGTH 4
+#define GUPPYSPOON_SHEET_CHALLENGES_LENGTH 13 /* beta, gamma, alpha, zeta, then b1 to b9 */
 
 /* The words of each call's answer. */
 #define GUPPYSPOON_INVERSE_WORDS 4
@@ -83,8 +96,9 @@ extern "C" {
 #define GUPPYSPOON_OPEN_WORDS 2
 #define GUPPYSPOON_CHECK_OPENING_WORDS 3
 #define GUPPYSPOON_PROVE_WORDS 2
+#define GUPPYSPOON_PROVE_BLINDED_WORDS 2
 #define GUPPYSPOON_LOST_GAMMAS_WORDS 3
-#define GUPPYSPOON_READ_WORDS 5
+#define GUPPYSPOON_READ_WORDS 6
 #define GUPPYSPOON_TO_ROWS_WORDS 2
 #define GUPPYSPOON_TO_COLUMNS_WORDS 2
 #define GUPPYSPOON_DEPOSIT_WORDS 3
@@ -102,6 +116,7 @@ extern "C" {
 #define GUPPYSPOON_OPEN_STACK 8192
 #define GUPPYSPOON_CHECK_OPENING_STACK 8192
 #define GUPPYSPOON_PROVE_STACK 245760
+#define GUPPYSPOON_PROVE_BLINDED_STACK TO_BE_MEASURED
 #define GUPPYSPOON_LOST_GAMMAS_STACK 61440
 #define GUPPYSPOON_READ_STACK 32768
 #define GUPPYSPOON_TO_ROWS_STACK 8192
@@ -204,9 +219,10 @@ void guppyspoon_check_rows(uint32_t p, uint32_t n, uint32_t l, const uint32_t *s
                            const uint32_t *z, size_t z_length, const uint32_t *challenges, size_t challenges_length, uint32_t *answer,
                            size_t answer_length);
 
-/* The point check: whether F(zeta) = t(zeta) * (zeta^n - 1) for a prepared circuit and a transcript.
+/* The point check: whether F(zeta) = t(zeta) * (zeta^n - 1) for a prepared circuit and a transcript, unblinded or blinded.
  *
- * Buffers: 1 publics, l; 2 prepared, 8n; 3 transcript, 7n - 3; 4 challenges (beta, gamma, alpha, zeta), 4; 5 scratch, 16n, written.
+ * Buffers: 1 publics, l; 2 prepared, 8n; 3 transcript, 7n - 3 or 7n + 15; 4 challenges (beta, gamma, alpha, zeta), 4; 5 scratch, 16n or 16n + 64,
+ *   written.
  * Reasons: 2, 3, 4, 6, 7 (publics, prepared, transcript, challenges end to end).
  * Answer: number, detail, the verdict (enum guppyspoon_point_verdict).
  */
@@ -218,8 +234,8 @@ void guppyspoon_check_point(uint32_t p, uint32_t n, uint32_t l, const uint32_t *
  * writes the evaluations s_i = f_i(point), and the opening polynomial: the sum over i from 0 of m^i * (f_i - s_i), over X - point. m^0 is 1, also
  * for m = 0.
  *
- * Buffers: 1 prepared, 8n; 2 transcript, 7n - 3; 3 list, any number (none, or above 13, gives reason 12); 4 evaluations, as many as the list has,
- *   written; 5 opening, 3n - 4, written; 6 challenges (the point, m), 2; 7 scratch, 16n, written.
+ * Buffers: 1 prepared, 8n; 2 transcript, 7n - 3 or 7n + 15; 3 list, any number (none, or above 13, gives reason 12); 4 evaluations, as many as the
+ *   list has, written; 5 opening, 3n - 4 or 3n + 5, written; 6 challenges (the point, m), 2; 7 scratch, 16n or 16n + 64, written.
  * Reasons: 2, 3, 6, 12, 13, 7 (prepared, transcript, challenges end to end).
  * Answer: number, detail.
  */
@@ -231,8 +247,8 @@ void guppyspoon_open(uint32_t p, uint32_t n, const uint32_t *prepared, size_t pr
 /* Checks such an opening: whether the sum over i of m^i * (f_i - s_i), with the lent evaluations s_i, equals opening * (X - point) in every
  * coefficient.
  *
- * Buffers: 1 prepared, 8n; 2 transcript, 7n - 3; 3 list, any number (none, or above 13, gives reason 12); 4 evaluations, as many as the list has;
- *   5 opening, 3n - 4; 6 challenges (the point, m), 2; 7 scratch, 16n, written.
+ * Buffers: 1 prepared, 8n; 2 transcript, 7n - 3 or 7n + 15; 3 list, any number (none, or above 13, gives reason 12); 4 evaluations, as many as the
+ *   list has; 5 opening, 3n - 4 or 3n + 5; 6 challenges (the point, m), 2; 7 scratch, 16n or 16n + 64, written.
  * Reasons: 2, 3, 6, 12, 13, 7 (prepared, transcript, evaluations, opening, challenges end to end).
  * Answer: number, detail, the verdict (enum guppyspoon_point_verdict).
  */
@@ -253,10 +269,25 @@ void guppyspoon_prove(uint32_t p, uint32_t n, uint32_t l, const uint32_t *select
                       uint32_t *transcript, size_t transcript_length, const uint32_t *challenges, size_t challenges_length, uint32_t *scratch,
                       size_t scratch_length, uint32_t *answer, size_t answer_length);
 
-/* The gammas that are lost with a beta: how many of the p gammas guppyspoon_prove refuses with reason 11, for a witness that satisfies its circuit,
- * over 17 and 2013265921; the others it takes. Over 97, how many of them meet the condition of reason 11. Counted are the different numbers among witness + beta * tag, modulo p, over the 3n positions. The tag of a position is 1,
- * g or g * g, for the columns a, b, c, times the point of its row; g is 3 for 17, 5 for 97, 31 for 2013265921. Whether the witness satisfies a
- * circuit is not looked at.
+/* The prover, blinding: the transcript a, b, c, z, t of a witness that satisfies its circuit, where (b1 X + b2)(X^n - 1) is added to a,
+ * (b3 X + b4)(X^n - 1) to b, (b5 X + b6)(X^n - 1) to c and (b7 X^2 + b8 X + b9)(X^n - 1) to z, and t is that of these. It is accepted as the
+ * unblinded one is, whichever the nine; with nine zeros each polynomial has the coefficients of the unblinded one, and zeros behind.
+ *
+ * Buffers: 1 selectors, 5n; 2 labels, 3n; 3 witness, 3n; 4 publics, l; 5 transcript, 7n + 15, written; 6 challenges (beta, gamma, alpha), 3;
+ *   7 blinders (b1 to b9), 9; 8 scratch, 16n + 64, written.
+ * Reasons: 2, 16, 3, 4, 6, 7 (selectors, witness, publics, challenges, blinders end to end), 8, 14, 9, 10, 11.
+ * Answer: number, detail.
+ */
+void guppyspoon_prove_blinded(uint32_t p, uint32_t n, uint32_t l, const uint32_t *selectors, size_t selectors_length, const uint32_t *labels,
+                              size_t labels_length, const uint32_t *witness, size_t witness_length, const uint32_t *publics, size_t publics_length,
+                              uint32_t *transcript, size_t transcript_length, const uint32_t *challenges, size_t challenges_length,
+                              const uint32_t *blinders, size_t blinders_length, uint32_t *scratch, size_t scratch_length, uint32_t *answer,
+                              size_t answer_length);
+
+/* The gammas that are lost with a beta: how many of the p gammas guppyspoon_prove and guppyspoon_prove_blinded refuse with reason 11, for a witness
+ * that satisfies its circuit, over 17 and 2013265921; the others they take. Over 97, how many of them meet the condition of reason 11. Counted are
+ * the different numbers among witness + beta * tag, modulo p, over the 3n positions. The tag of a position is 1, g or g * g, for the columns a, b, c,
+ * times the point of its row; g is 3 for 17, 5 for 97, 31 for 2013265921. Whether the witness satisfies a circuit is not looked at.
  *
  * Buffers: 1 witness, 3n; 2 challenges (beta), 1.
  * Reasons: 2, 3, 6, 7 (witness, challenges end to end).
@@ -265,12 +296,15 @@ void guppyspoon_prove(uint32_t p, uint32_t n, uint32_t l, const uint32_t *select
 void guppyspoon_lost_gammas(uint32_t p, uint32_t n, const uint32_t *witness, size_t witness_length, const uint32_t *challenges,
                             size_t challenges_length, uint32_t *answer, size_t answer_length);
 
-/* The numbers of a sheet, at the start of buffers with room for 256 rows, zeros behind.
+/* The numbers of a sheet, at the start of buffers with room for 256 rows, zeros behind. The sheet may end with a line of b1 to b9: what stands behind
+ * the line of the challenges is that line.
  *
  * Buffers: 1 sheet, any number of bytes (above 65,536 gives reason 1); 2 selectors, 1280, written; 3 labels, 768, written;
- *   4 witness, 768, written; 5 publics, 256, written; 6 challenges (beta, gamma, alpha, zeta), 4, written.
- * Reasons: 1, 2, 3, 4, 5, 6, 7 (selectors, witness, publics, challenges end to end, as they are lent for the sheet's n and l), 8, 14.
- * Answer: number, detail, p, n, l (all three 0 if refused).
+ *   4 witness, 768, written; 5 publics, 256, written; 6 challenges (beta, gamma, alpha, zeta, then b1 to b9, zeros where their line is absent), 13,
+ *   written.
+ * Reasons: 1, 2, 3, 4, 5, 6, 7 (selectors, witness, publics, challenges, blinders where their line is there, end to end, as they are lent for the
+ *   sheet's n and l), 8, 14.
+ * Answer: number, detail, p, n, l, 1 if the line of b1 to b9 is there and 0 if it is absent (all four 0 if refused).
  */
 void guppyspoon_read(const uint8_t *sheet, size_t sheet_length, uint32_t *selectors, size_t selectors_length, uint32_t *labels,
                      size_t labels_length, uint32_t *witness, size_t witness_length, uint32_t *publics, size_t publics_length,
@@ -294,8 +328,8 @@ void guppyspoon_to_rows(uint32_t n, const uint32_t *columns, size_t columns_leng
 void guppyspoon_to_columns(uint32_t n, const uint32_t *rows, size_t rows_length, uint32_t *columns, size_t columns_length, uint32_t *answer,
                            size_t answer_length);
 
-/* The text that the program `deposit` prints of a sheet, zeros behind. A sheet that is refused has a text too (`refused,`, number, detail; the
- * reasons are 1, 2, 16, 3, 4, 5, 7, 8, 14, 9, 10, 11): the call is accepted.
+/* The text that the program `deposit` prints of a sheet, zeros behind: the transcript is blinded where the sheet has the line of b1 to b9. A sheet that
+ * is refused has a text too (`refused,`, number, detail; the reasons are 1, 2, 16, 3, 4, 5, 7, 8, 14, 9, 10, 11): the call is accepted.
  *
  * Buffers: 1 sheet, any number of bytes; 2 text, 20,480 bytes, written.
  * Reasons: 6 (detail 2).
@@ -305,7 +339,8 @@ void guppyspoon_deposit(const uint8_t *sheet, size_t sheet_length, uint8_t *text
 
 /* Two sheets of the same p and n joined to one of 2n rows, zeros behind: the public rows of the first, those of the second, the other rows of the
  * first, those of the second, each with its witness; l is the sum. The labels of the second are raised by 3n. The public inputs are those of the
- * first, then those of the second; the challenges are those of the first. Whether either witness satisfies its circuit is not looked at.
+ * first, then those of the second; the challenges are those of the first. A line of b1 to b9 is looked at as the rest of its sheet, and dropped:
+ * the joined sheet has none. Whether either witness satisfies its circuit is not looked at.
  *
  * Buffers: 1 one, the first sheet, any number of bytes (above 65,536 gives reason 1); 2 two, the second, the same; 3 joined, 65,536 bytes, written.
  *   `one` and `two` may be the same sheet.
