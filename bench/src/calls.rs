@@ -15,8 +15,8 @@ extern "C" {
         answer_length: usize,
     );
     fn guppyspoon_prepare(
-        p: u32, n: u32, l: u32, selectors: *const u32, selectors_length: usize, labels: *const u32, labels_length: usize, written: *mut u32,
-        written_length: usize, scratch: *mut u32, scratch_length: usize, answer: *mut u32, answer_length: usize,
+        p: u32, n: u32, l: u32, selectors: *const u32, selectors_length: usize, labels: *const u32, labels_length: usize,
+        written: *mut u32, written_length: usize, scratch: *mut u32, scratch_length: usize, answer: *mut u32, answer_length: usize,
     );
     fn guppyspoon_check_rows(
         p: u32, n: u32, l: u32, selectors: *const u32, selectors_length: usize, labels: *const u32, labels_length: usize,
@@ -43,6 +43,12 @@ extern "C" {
         witness: *const u32, witness_length: usize, publics: *const u32, publics_length: usize, transcript: *mut u32,
         transcript_length: usize, challenges: *const u32, challenges_length: usize, scratch: *mut u32, scratch_length: usize,
         answer: *mut u32, answer_length: usize,
+    );
+    fn guppyspoon_prove_blinded(
+        p: u32, n: u32, l: u32, selectors: *const u32, selectors_length: usize, labels: *const u32, labels_length: usize,
+        witness: *const u32, witness_length: usize, publics: *const u32, publics_length: usize, transcript: *mut u32,
+        transcript_length: usize, challenges: *const u32, challenges_length: usize, blinders: *const u32, blinders_length: usize,
+        scratch: *mut u32, scratch_length: usize, answer: *mut u32, answer_length: usize,
     );
     fn guppyspoon_lost_gammas(
         p: u32, n: u32, witness: *const u32, witness_length: usize, challenges: *const u32, challenges_length: usize, answer: *mut u32,
@@ -79,6 +85,7 @@ pub fn address(name: &str) -> *const () {
         "open" => guppyspoon_open as *const (),
         "check_opening" => guppyspoon_check_opening as *const (),
         "prove" => guppyspoon_prove as *const (),
+        "prove_blinded" => guppyspoon_prove_blinded as *const (),
         "lost_gammas" => guppyspoon_lost_gammas as *const (),
         "read" => guppyspoon_read as *const (),
         "to_rows" => guppyspoon_to_rows as *const (),
@@ -293,6 +300,37 @@ pub fn prove(
             transcript.len(),
             challenges.as_ptr(),
             challenges.len(),
+            scratch.as_mut_ptr(),
+            scratch.len(),
+            answer.as_mut_ptr(),
+            answer.len(),
+        )
+    }
+}
+
+pub fn prove_blinded(
+    p: u32, n: u32, l: u32, selectors: &[u32], labels: &[u32], witness: &[u32], publics: &[u32], transcript: &mut [u32],
+    challenges: &[u32], blinders: &[u32], scratch: &mut [u32], answer: &mut [u32],
+) {
+    unsafe {
+        guppyspoon_prove_blinded(
+            p,
+            n,
+            l,
+            selectors.as_ptr(),
+            selectors.len(),
+            labels.as_ptr(),
+            labels.len(),
+            witness.as_ptr(),
+            witness.len(),
+            publics.as_ptr(),
+            publics.len(),
+            transcript.as_mut_ptr(),
+            transcript.len(),
+            challenges.as_ptr(),
+            challenges.len(),
+            blinders.as_ptr(),
+            blinders.len(),
             scratch.as_mut_ptr(),
             scratch.len(),
             answer.as_mut_ptr(),

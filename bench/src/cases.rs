@@ -1,6 +1,6 @@
 // Cases: circuits that are filled rightly, and damage of every kind that documents 01 and 02 have a reason for.
 use crate::kinds::{plainly, Case, Kind, Role};
-use crate::lengths::{self, CHALLENGES, CHECK_ROWS_CHALLENGES, LOST_GAMMAS_CHALLENGES, POLYNOMIALS, PROVE_CHALLENGES, SELECTORS};
+use crate::lengths::{self, BLINDERS, CHALLENGES, CHECK_ROWS_CHALLENGES, LOST_GAMMAS_CHALLENGES, POLYNOMIALS, PROVE_CHALLENGES, SELECTORS};
 use crate::numbers::*;
 use crate::opening_cases::{relist, Opening};
 use crate::plain;
@@ -8,7 +8,7 @@ use crate::polynomials::add_product;
 use crate::random::Random;
 use crate::rows;
 
-// A circuit with contents, public numbers and challenges, each as it is lent.
+// A circuit with contents, public numbers and challenges, each as it is lent, and the nine numbers with which its transcript is blinded, if it is.
 #[derive(Clone)]
 pub struct Circuit {
     pub p: u32,
@@ -19,6 +19,7 @@ pub struct Circuit {
     pub contents: Vec<u32>,
     pub publics: Vec<u32>,
     pub challenges: [u32; CHALLENGES],
+    pub blinders: Option<[u32; BLINDERS]>,
 }
 
 // Labels: any, few different ones, one only, all different in any order.
@@ -39,7 +40,36 @@ fn labels(r: &mut Random, n: usize) -> Vec<u32> {
     }
 }
 
+// Nine numbers to blind with: any, few different ones, or all 0.
+fn blinders(r: &mut Random, p: u32) -> [u32; BLINDERS] {
+    let any = [0; BLINDERS].map(|_| r.element(p));
+    match r.below(6) {
+        0 => [0; BLINDERS],
+        1 => any.map(|b| [0, 1, p - 1][b as usize % 3]),
+        _ => any,
+    }
+}
+
 impl Circuit {
+    // 1 where the transcript is blinded, else 0.
+    pub fn e(&self) -> usize {
+        self.blinders.is_some() as usize
+    }
+
+    // The numbers that it is blinded with, or none.
+    pub fn nine(&self) -> &[u32] {
+        self.blinders.as_ref().map_or(&[], |nine| &nine[..])
+    }
+
+    // The same with a transcript that is not blinded, and with one that is.
+    pub fn unblinded(&self) -> Circuit {
+        Circuit { blinders: None, ..self.clone() }
+    }
+
+    pub fn blinded(&self, r: &mut Random) -> Circuit {
+        Circuit { blinders: self.blinders.or(Some(blinders(r, self.p))), ..self.clone() }
+    }
+
     // The rows below l as public rows, with the contents of a as public numbers, and the constants that make every other gate hold.
     pub fn mend_gates(&mut self) {
         let (p, n, l) = (self.p, self.n as usize, self.l as usize);
@@ -56,7 +86,7 @@ impl Circuit {
         }
     }
 
-    // A circuit that is filled rightly. A zero denominator may occur, and in small fields often does.
+    // A circuit that is filled rightly, half of them to be blinded. A zero denominator may occur, and in small fields often does.
     pub fn new(r: &mut Random, p: u32, n: u32) -> Circuit {
         let m = n as usize;
         let labels = labels(r, m);
@@ -76,7 +106,11 @@ impl Circuit {
             labels,
             publics: vec![0; l as usize],
             challenges: [0; CHALLENGES].map(|_| r.element(p)),
+            blinders: None,
         };
+        if r.once_in(2) {
+            circuit.blinders = Some(blinders(r, p));
+        }
         if r.once_in(3) {
             for q in circuit.selectors.iter_mut() {
                 *q = r.pick(&[0, 0, 1, p - 1]);
@@ -146,14 +180,15 @@ impl Circuit {
         written
     }
 
-    // The transcript of the plain implementation, over a retired prime too; zeros where it refuses.
+    // The transcript of the plain implementation, blinded or not, over a retired prime too; zeros where it refuses.
     fn transcript(&self) -> Vec<u32> {
         let n = self.n as usize;
-        let mut transcript = vec![0; lengths::transcript(n)];
-        let scratch = &mut vec![0; lengths::scratch(n)];
-        let (s, c) = (&self.selectors, &self.contents);
+        let mut transcript = vec![0; lengths::transcript(self.e(), n)];
+        let scratch = &mut vec![0; lengths::work(self.e(), n)];
+        let (s, k, c, x) = (&self.selectors, &self.labels, &self.contents, &self.publics);
         let challenges = &self.challenges[..PROVE_CHALLENGES];
-        plain::prove_filed(add_product, self.p, self.n, self.l, s, &self.labels, c, &self.publics, &mut transcript, challenges, scratch);
+        let blinders = self.blinders.as_ref().map(|nine| &nine[..]);
+        plain::prove_filed(add_product, self.p, self.n, self.l, s, k, c, x, &mut transcript, challenges, blinders, scratch);
         transcript
     }
 
@@ -169,7 +204,8 @@ impl Circuit {
         }
     }
 
-    // The call of a kind on this circuit. Buffers that are only written hold anything.
+    // The call of a kind on this circuit. A call that is lent a transcript is lent that of this circuit, blinded or not; one that blinds is lent nine
+    // numbers that are drawn, where this circuit has none. Buffers that are only written hold anything.
     pub fn case(&self, r: &mut Random, kind: Kind) -> Case {
         let (p, n) = (self.p, self.n as usize);
         let selectors = self.selectors.clone();
@@ -177,6 +213,8 @@ impl Circuit {
         let contents = self.contents.clone();
         let publics = self.publics.clone();
         let scratch = r.words(lengths::scratch(n));
+        let work = |r: &mut Random, e: usize| r.words(lengths::work(e, n));
+        let laid = |r: &mut Random, e: usize| r.words(lengths::transcript(e, n));
         let first = |count: usize| self.challenges[..count].to_vec();
         let buffers = match kind {
             Kind::Inverse => vec![],
@@ -184,9 +222,13 @@ impl Circuit {
             Kind::Permutation => vec![labels, r.words(lengths::positions(n))],
             Kind::Prepare => vec![selectors, labels, r.words(lengths::prepared(n)), scratch],
             Kind::CheckRows => vec![selectors, labels, contents, publics, self.z(), first(CHECK_ROWS_CHALLENGES)],
-            Kind::CheckPoint => vec![publics, self.prepared(), self.transcript(), self.challenges.to_vec(), scratch],
+            Kind::CheckPoint => vec![publics, self.prepared(), self.transcript(), self.challenges.to_vec(), work(r, self.e())],
             Kind::Open | Kind::CheckOpening => return self.opening().case(r, kind),
-            Kind::Prove => vec![selectors, labels, contents, publics, r.words(lengths::transcript(n)), first(PROVE_CHALLENGES), scratch],
+            Kind::Prove => vec![selectors, labels, contents, publics, laid(r, 0), first(PROVE_CHALLENGES), work(r, 0)],
+            Kind::ProveBlinded => {
+                let nine = self.blinded(r).nine().to_vec();
+                vec![selectors, labels, contents, publics, laid(r, 1), first(PROVE_CHALLENGES), nine, work(r, 1)]
+            }
             Kind::LostGammas => vec![contents, first(LOST_GAMMAS_CHALLENGES)],
             Kind::ToRows => vec![rows::by_position(&contents), r.words(lengths::positions(n))],
             Kind::ToColumns => vec![contents, r.words(lengths::positions(n))],
@@ -218,13 +260,23 @@ pub fn at_a_row(r: &mut Random, case: &mut Case) {
     }
 }
 
+// By how much an opening, a transcript and a scratch are longer where the transcript is blinded, whatever the number of rows.
+fn steps() -> [usize; 3] {
+    [lengths::opening, lengths::transcript, lengths::work].map(|length| length(1, 2) - length(0, 2))
+}
+
+// Another length: one off, none, twice as many, as many as a blinded transcript has more, or fewer of these.
 fn resize(r: &mut Random, buffer: &mut Vec<u32>, p: u32) {
     let length = buffer.len();
-    let new = match r.below(6) {
+    let step = r.pick(&steps());
+    let fewer = r.below(step);
+    let new = match r.below(8) {
         0 | 1 => length + 1,
         2 | 3 => length.saturating_sub(1),
         4 => 0,
-        _ => 2 * length + 2,
+        5 => 2 * length + 2,
+        6 => r.pick(&[length + step, length.saturating_sub(step)]),
+        _ => r.pick(&[length + fewer, length.saturating_sub(fewer)]),
     };
     buffer.resize_with(new, || r.element(p.max(1)));
 }

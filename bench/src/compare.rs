@@ -1,6 +1,7 @@
 // The proved library against the plain implementation: every word of every buffer.
 use crate::cases::{at_a_row, damage, disturb, Circuit};
 use crate::kinds::{plainly, proved, Case, Kind, KINDS};
+use crate::length_cases;
 use crate::loss_cases;
 use crate::numbers::{field, LARGEST, PRIMES};
 use crate::opening_cases::{self, mislead, Opening};
@@ -118,7 +119,7 @@ pub fn make(r: &mut Random, kind: Kind, p: u32, n: u32) -> Case {
 fn how_many(kind: Kind, n: usize) -> usize {
     match kind {
         Kind::Inverse => 2000,
-        Kind::Prove | Kind::CheckPoint => (1_200_000 / (n * n)).clamp(12, 4000),
+        Kind::Prove | Kind::ProveBlinded | Kind::CheckPoint => (1_200_000 / (n * n)).clamp(12, 4000),
         _ => (600_000 / n).clamp(60, 4000),
     }
 }
@@ -133,7 +134,8 @@ fn all_inverses() -> Vec<Case> {
 fn all_small(r: &mut Random, kind: Kind) -> Vec<Case> {
     match kind {
         Kind::Inverse => all_inverses(),
-        Kind::Open | Kind::CheckOpening => opening_cases::all_small(r, kind),
+        Kind::Open | Kind::CheckOpening => [opening_cases::all_small(r, kind), length_cases::all_small(r, kind)].concat(),
+        Kind::CheckPoint | Kind::Prove | Kind::ProveBlinded => length_cases::all_small(r, kind),
         Kind::LostGammas => loss_cases::all_small(r),
         Kind::ToRows | Kind::ToColumns => transfer_cases::all_small(r, kind),
         _ => vec![],

@@ -1,12 +1,14 @@
 // The sheet of document 01 with the answers that it gives, and openings of its polynomials, joins of it, counts of the gammas that are lost with it and
 // its contents in both layouts, with answers worked out by hand, on both sides.
 use crate::kinds::{plainly, proved, Case, Kind};
-use crate::lengths::{opening as opening_length, positions, prepared, scratch, selectors, transcript, READ, TEXT};
+use crate::lengths::{blinded_by, opening as opening_length, positions, prepared, scratch, selectors, transcript, work, READ, TEXT};
 use crate::random::Random;
-use crate::{calls, gammas, join_compare, plain, sheets};
+use crate::{blinding, calls, gammas, join_compare, plain, sheets};
 
 pub const SHEET: &[u8] = b"17,2,0\n0,0,16,1,0,0,1,2\n1,1,16,0,0,2,2,3\n2,3,6\n6,6,12\n1,1,2,2\n";
-// The same with row 0 made a public row, and the content of its a as public number.
+// The same with the line of nine numbers, with which its transcript is blinded.
+pub const BLINDED: &[u8] = b"17,2,0\n0,0,16,1,0,0,1,2\n1,1,16,0,0,2,2,3\n2,3,6\n6,6,12\n1,1,2,2\n1,2,3,4,5,6,7,8,9\n";
+// The sheet with row 0 made a public row, and the content of its a as public number.
 const PUBLIC: &str = "17,2,1\n1,0,0,0,0,0,1,2\n1,1,16,0,0,2,2,3\n2,3,6\n6,6,12\n2\n1,1,2,2\n";
 // Joined sheets: the sheet with itself, with the one that has a public row, that one with it, and that one with itself.
 const TWICE: &str =
@@ -20,18 +22,18 @@ const PUBLIC_TWICE: &str =
 const PRINTED: &str = "a,4,15\nb,13,7\nc,9,14\nz,16,2\nt,9,12,15\naccept\n";
 
 // The rows of the sheet, and its numbers as they are lent.
-const N: usize = 2;
-const SELECTORS: [u32; selectors(N)] = [0, 1, 0, 1, 16, 16, 1, 0, 0, 0];
-const LABELS: [u32; positions(N)] = [0, 2, 1, 2, 2, 3];
+pub const N: usize = 2;
+pub const SELECTORS: [u32; selectors(N)] = [0, 1, 0, 1, 16, 16, 1, 0, 0, 0];
+pub const LABELS: [u32; positions(N)] = [0, 2, 1, 2, 2, 3];
 // Row by row, and as they were lent before, column after column.
-const CONTENTS: [u32; positions(N)] = [2, 3, 6, 6, 6, 12];
+pub const CONTENTS: [u32; positions(N)] = [2, 3, 6, 6, 6, 12];
 const COLUMNS: [u32; positions(N)] = [2, 6, 3, 6, 6, 12];
-const TRANSCRIPT: [u32; transcript(N)] = [4, 15, 13, 7, 9, 14, 16, 2, 9, 12, 15];
+const TRANSCRIPT: [u32; transcript(0, N)] = [4, 15, 13, 7, 9, 14, 16, 2, 9, 12, 15];
 // How many gammas are lost with each beta: 91 of the 289 pairs together.
 const LOST: [u32; 17] = [4, 4, 5, 6, 6, 4, 5, 6, 4, 5, 6, 6, 6, 6, 6, 6, 6];
 
 // A call on both sides: the answer's words, then the numbers of the buffer that is looked at.
-fn expect(name: &str, kind: Kind, l: u32, buffers: &[&[u32]], words: &[u32], at: usize, due: &[u32]) -> usize {
+pub fn expect(name: &str, kind: Kind, l: u32, buffers: &[&[u32]], words: &[u32], at: usize, due: &[u32]) -> usize {
     let buffers: Vec<Vec<u32>> = buffers.iter().map(|b| b.to_vec()).collect();
     let case = Case { kind, p: 17, n: N as u32, l, buffers };
     let mut off = 0;
@@ -53,21 +55,31 @@ fn expect(name: &str, kind: Kind, l: u32, buffers: &[&[u32]], words: &[u32], at:
 }
 
 fn prove(name: &str, contents: &[u32], challenges: &[u32], words: &[u32], due: &[u32]) -> usize {
-    expect(name, Kind::Prove, 0, &[&SELECTORS, &LABELS, contents, &[], &[7; transcript(N)], challenges, &[7; scratch(N)]], words, 4, due)
+    expect(name, Kind::Prove, 0, &[&SELECTORS, &LABELS, contents, &[], &[7; transcript(0, N)], challenges, &[7; work(0, N)]], words, 4, due)
 }
 
 fn rows(name: &str, contents: &[u32], z: &[u32], challenges: &[u32], words: &[u32]) -> usize {
     expect(name, Kind::CheckRows, 0, &[&SELECTORS, &LABELS, contents, &[], z, challenges], words, 4, z)
 }
 
-// An opening of the sheet's polynomials: both results, and the check accepts them.
-fn opening(name: &str, prepared: &[u32], list: &[u32], challenges: &[u32], evaluations: &[u32], due: &[u32]) -> usize {
+// An opening of the sheet's polynomials, of a transcript of either length: both results, and the check accepts them.
+pub fn opening(name: &str, lent: [&[u32]; 2], list: &[u32], challenges: &[u32], evaluations: &[u32], due: &[u32]) -> usize {
+    let [prepared, transcript] = lent;
+    let e = blinded_by(N, transcript);
+    let (blank, area) = (vec![7; opening_length(e, N)], vec![7; work(e, N)]);
     let untouched = vec![7; list.len()];
-    let blank: [&[u32]; 7] = [prepared, &TRANSCRIPT, list, &untouched, &[7; opening_length(N)], challenges, &[7; scratch(N)]];
-    let right: [&[u32]; 7] = [prepared, &TRANSCRIPT, list, evaluations, due, challenges, &[7; scratch(N)]];
-    expect(name, Kind::Open, 0, &blank, &[0, 0], 3, evaluations)
-        + expect(name, Kind::Open, 0, &blank, &[0, 0], 4, due)
-        + expect(name, Kind::CheckOpening, 0, &right, &[0, 0, 1], 6, &[0; scratch(N)])
+    let open: [&[u32]; 7] = [prepared, transcript, list, &untouched, &blank, challenges, &area];
+    let right: [&[u32]; 7] = [prepared, transcript, list, evaluations, due, challenges, &area];
+    expect(name, Kind::Open, 0, &open, &[0, 0], 3, evaluations)
+        + expect(name, Kind::Open, 0, &open, &[0, 0], 4, due)
+        + expect(name, Kind::CheckOpening, 0, &right, &[0, 0, 1], 6, &vec![0; area.len()])
+}
+
+// The sheet's prepared circuit.
+pub fn prepared_circuit() -> [u32; prepared(N)] {
+    let mut made = [7; prepared(N)];
+    plain::prepare(17, 2, 0, &SELECTORS, &LABELS, &mut made, &mut [7; scratch(N)]);
+    made
 }
 
 // With row 1 as 5,7,12, beta 1 and gamma 1, no z passes.
@@ -84,7 +96,7 @@ fn no_pass(contents: &[u32], z: &[u32]) -> usize {
 }
 
 // What `deposit` prints of the sheet with a part of it changed, on both sides.
-fn deposit(name: &str, from: &str, to: &str, due: &str) -> usize {
+pub fn deposit(name: &str, from: &str, to: &str, due: &str) -> usize {
     let sheet = std::str::from_utf8(SHEET).unwrap().replacen(from, to, 1);
     let mut text = vec![7; TEXT];
     let mut answer = [7; 3];
@@ -139,7 +151,7 @@ fn public_rows() -> usize {
     off
 }
 
-fn join(name: &str, one: &str, two: &str, due: &str) -> usize {
+pub fn join(name: &str, one: &str, two: &str, due: &str) -> usize {
     join_compare::expect(&format!("from document 02, joining {name}"), one.as_bytes(), two.as_bytes(), due.as_bytes())
 }
 
@@ -190,22 +202,22 @@ fn losses() -> usize {
     off
 }
 
-// What `read` lays of the sheet's contents.
-fn reading() -> usize {
-    let mut due = CONTENTS.to_vec();
-    due.resize(READ[2], 0);
+// What `read` answers of a sheet, and what it lays in one of its buffers.
+pub fn reading(name: &str, sheet: &[u8], words: [u32; 6], at: usize, numbers: &[u32]) -> usize {
+    let mut due = numbers.to_vec();
+    due.resize(READ[at], if words[0] == 0 { 0 } else { 7 });
     let mut off = 0;
     for side in ["plain", "proved"] {
         let mut own = READ.map(|length| vec![7; length]);
         let [a, b, c, d, e] = &mut own;
-        let mut answer = [7; 5];
+        let mut answer = [7; 6];
         if side == "plain" {
-            answer = sheets::read(SHEET, &mut [a, b, c, d, e].map(|b| &mut b[..]));
+            answer = sheets::read(sheet, &mut [a, b, c, d, e].map(|b| &mut b[..]));
         } else {
-            calls::read(SHEET, a, b, c, d, e, &mut answer);
+            calls::read(sheet, a, b, c, d, e, &mut answer);
         }
-        if answer != [0, 0, 17, 2, 0] || own[2] != due {
-            println!("DIFFERENCE from document 02, reading the sheet, {side}: answer {answer:?}, contents {:?}", &own[2][..12]);
+        if answer != words || own[at] != due {
+            println!("DIFFERENCE from document 02, reading {name}, {side}: answer {answer:?}, numbers {:?}", &own[at][..12]);
             off += 1;
         }
     }
@@ -215,7 +227,7 @@ fn reading() -> usize {
 // The contents as they are read, taken from one layout to the other, and lengths that are refused.
 fn layouts() -> usize {
     let untouched = [7; positions(N)];
-    let mut off = reading();
+    let mut off = reading("the sheet", SHEET, [0, 0, 17, 2, 0, 0], 2, &CONTENTS);
     off += expect("to rows", Kind::ToRows, 0, &[&COLUMNS, &untouched], &[0, 0], 1, &CONTENTS);
     off += expect("to columns", Kind::ToColumns, 0, &[&CONTENTS, &untouched], &[0, 0], 1, &COLUMNS);
     for kind in [Kind::ToRows, Kind::ToColumns] {
@@ -226,7 +238,7 @@ fn layouts() -> usize {
 }
 
 pub fn run() -> usize {
-    let untouched = [7; transcript(N)];
+    let untouched = [7; transcript(0, N)];
     let mut off = 0;
     off += expect("wiring", Kind::Permutation, 0, &[&LABELS, &[7; positions(N)]], &[0, 0], 1, &[0, 3, 2, 4, 1, 5]);
     off += prove("the transcript", &CONTENTS, &[1, 1, 2], &[0, 0], &TRANSCRIPT);
@@ -242,18 +254,18 @@ pub fn run() -> usize {
             off += no_pass(&[2, 3, 6, 5, 7, 12], &[z0, z1]);
         }
     }
-    let mut made = [7; prepared(N)];
-    plain::prepare(17, 2, 0, &SELECTORS, &LABELS, &mut made, &mut [7; scratch(N)]);
+    let made = prepared_circuit();
     off += expect("prepared", Kind::Prepare, 0, &[&SELECTORS, &LABELS, &[7; prepared(N)], &[7; scratch(N)]], &[0, 0], 2, &made);
-    let lent: [&[u32]; 5] = [&[], &made, &TRANSCRIPT, &[1, 1, 2, 2], &[7; scratch(N)]];
-    off += expect("accept", Kind::CheckPoint, 0, &lent, &[0, 0, 1], 4, &[0; scratch(N)]);
-    off += opening("a, b, c, z and t at 2, m 3", &made, &[8, 9, 10, 11, 12], &[2, 3], &[0, 10, 3, 3, 8], &[14, 8]);
-    off += opening("z twice at row 1's point, m 1", &made, &[11, 11], &[16, 1], &[14, 14], &[4, 0]);
+    let lent: [&[u32]; 5] = [&[], &made, &TRANSCRIPT, &[1, 1, 2, 2], &[7; work(0, N)]];
+    off += expect("accept", Kind::CheckPoint, 0, &lent, &[0, 0, 1], 4, &[0; work(0, N)]);
+    off += opening("a, b, c, z and t at 2, m 3", [&made, &TRANSCRIPT], &[8, 9, 10, 11, 12], &[2, 3], &[0, 10, 3, 3, 8], &[14, 8]);
+    off += opening("z twice at row 1's point, m 1", [&made, &TRANSCRIPT], &[11, 11], &[16, 1], &[14, 14], &[4, 0]);
     off += deposits();
     off += public_rows();
     off += joins();
     off += losses();
     off += layouts();
+    off += blinding::run();
     println!("the sheet of document 01: {off} differences");
     off
 }

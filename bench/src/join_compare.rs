@@ -1,10 +1,10 @@
-// Joins, proved against plain: every byte of the written buffer, and the answer.
+// Joins of sheets with the line of nine numbers and without, proved against plain: every byte of the written buffer, and the answer.
 use crate::calls;
 use crate::cases::Circuit;
 use crate::compare::over;
-use crate::document::SHEET;
+use crate::document::{BLINDED, SHEET};
 use crate::joins;
-use crate::lengths::{positions, selectors, CHALLENGES, JOINED, TEXT};
+use crate::lengths::{positions, selectors, BLINDERS, CHALLENGES, JOINED, TEXT};
 use crate::random::Random;
 use crate::sheet_cases::{noise, sheet_of};
 use crate::sheet_compare::{all_small, files, first_difference, inner, one_sheet, sizes, wrong, Count, AROUND};
@@ -108,7 +108,7 @@ fn all_publics(r: &mut Random, p: u32, n: u32, count: &mut Count) {
     }
 }
 
-// A sheet of one element, but for its public rows, and one label.
+// A sheet of one element, but for its public rows, and one label; with the line of nine numbers where its element is odd.
 fn uniform(p: u32, n: u32, l: u32, x: u32, label: u32) -> Vec<u8> {
     let m = n as usize;
     let is_public = |k: usize| k % m < l as usize;
@@ -122,6 +122,7 @@ fn uniform(p: u32, n: u32, l: u32, x: u32, label: u32) -> Vec<u8> {
         contents: vec![x; positions(m)],
         publics: vec![x; l as usize],
         challenges: [x; CHALLENGES],
+        blinders: (x % 2 == 1).then_some([x; BLINDERS]),
     })
 }
 
@@ -153,10 +154,12 @@ fn all_sizes(r: &mut Random, count: &mut Count) {
 pub fn run(times: usize) -> usize {
     let mut r = Random::new(131072);
     let mut count = Count::default();
-    all_small(SHEET, |sheet| {
-        try_pair(&mut r, &[sheet.to_vec(), SHEET.to_vec()], &mut count);
-        try_pair(&mut r, &[SHEET.to_vec(), sheet.to_vec()], &mut count);
-    });
+    for (changed, other) in [(SHEET, SHEET), (BLINDED, SHEET)] {
+        all_small(changed, |sheet| {
+            try_pair(&mut r, &[sheet.to_vec(), other.to_vec()], &mut count);
+            try_pair(&mut r, &[other.to_vec(), sheet.to_vec()], &mut count);
+        });
+    }
     for (p, n) in sizes() {
         all_publics(&mut r, p, n, &mut count);
         all_uniform(&mut r, p, n, &mut count);

@@ -61,7 +61,8 @@ fn put_line(out: &mut Vec<u8>, numbers: &[u32]) {
     out.push(10);
 }
 
-// The joined sheet: the labels of the second are raised by 3n, the challenges are those of the first.
+// The joined sheet: the labels of the second are raised by 3n, the challenges are those of the first. Where a sheet has the line of nine numbers, it is
+// dropped.
 fn write(pair: &[Circuit; 2]) -> Vec<u8> {
     let [one, two] = pair;
     let n = one.n as usize;

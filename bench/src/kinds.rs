@@ -13,12 +13,13 @@ pub enum Kind {
     Open,
     CheckOpening,
     Prove,
+    ProveBlinded,
     LostGammas,
     ToRows,
     ToColumns,
 }
 
-pub const KINDS: [Kind; 13] = [
+pub const KINDS: [Kind; 14] = [
     Kind::Inverse,
     Kind::Evaluate,
     Kind::Interpolate,
@@ -29,6 +30,7 @@ pub const KINDS: [Kind; 13] = [
     Kind::Open,
     Kind::CheckOpening,
     Kind::Prove,
+    Kind::ProveBlinded,
     Kind::LostGammas,
     Kind::ToRows,
     Kind::ToColumns,
@@ -57,8 +59,38 @@ impl Kind {
             Kind::Open => &[Elements, Elements, Polynomials, Written, Written, Elements, Written],
             Kind::CheckOpening => &[Elements, Elements, Polynomials, Elements, Elements, Elements, Written],
             Kind::Prove => &[Elements, Labels, Elements, Elements, Written, Elements, Written],
+            Kind::ProveBlinded => &[Elements, Labels, Elements, Elements, Written, Elements, Elements, Written],
             Kind::LostGammas => &[Elements, Elements],
             Kind::ToRows | Kind::ToColumns => &[Words, Written],
+        }
+    }
+
+    // The call's name without the prefix.
+    pub fn name(self) -> &'static str {
+        match self {
+            Kind::Inverse => "inverse",
+            Kind::Evaluate => "evaluate",
+            Kind::Interpolate => "interpolate",
+            Kind::Permutation => "permutation",
+            Kind::Prepare => "prepare",
+            Kind::CheckRows => "check_rows",
+            Kind::CheckPoint => "check_point",
+            Kind::Open => "open",
+            Kind::CheckOpening => "check_opening",
+            Kind::Prove => "prove",
+            Kind::ProveBlinded => "prove_blinded",
+            Kind::LostGammas => "lost_gammas",
+            Kind::ToRows => "to_rows",
+            Kind::ToColumns => "to_columns",
+        }
+    }
+
+    // The words of its answer.
+    pub fn words(self) -> usize {
+        match self {
+            Kind::Inverse | Kind::CheckRows => 4,
+            Kind::CheckPoint | Kind::CheckOpening | Kind::LostGammas => 3,
+            _ => 2,
         }
     }
 
@@ -69,7 +101,7 @@ impl Kind {
 
     // Whether the call is lent l.
     pub fn has_l(self) -> bool {
-        matches!(self, Kind::Prepare | Kind::CheckRows | Kind::CheckPoint | Kind::Prove)
+        matches!(self, Kind::Prepare | Kind::CheckRows | Kind::CheckPoint | Kind::Prove | Kind::ProveBlinded)
     }
 
     // Whether the call is lent a list of polynomials.
@@ -117,6 +149,9 @@ pub fn plainly(case: &Case, buffers: &mut [&mut [u32]]) -> Vec<u32> {
         (Kind::Prove, [selectors, labels, contents, publics, transcript, challenges, scratch]) => {
             plain::prove(p, n, l, selectors, labels, contents, publics, transcript, challenges, scratch).to_vec()
         }
+        (Kind::ProveBlinded, [selectors, labels, contents, publics, transcript, challenges, blinders, scratch]) => {
+            plain::prove_blinded(p, n, l, selectors, labels, contents, publics, transcript, challenges, blinders, scratch).to_vec()
+        }
         (Kind::LostGammas, [contents, challenges]) => losses::lost_gammas(p, n, contents, challenges).to_vec(),
         (Kind::ToRows, [columns, rows]) => transfers::to_rows(n, columns, rows).to_vec(),
         (Kind::ToColumns, [rows, columns]) => transfers::to_columns(n, rows, columns).to_vec(),
@@ -147,6 +182,9 @@ pub fn proved(case: &Case, buffers: &mut [&mut [u32]], answer: &mut [u32]) {
         }
         (Kind::Prove, [selectors, labels, contents, publics, transcript, challenges, scratch]) => {
             calls::prove(p, n, l, selectors, labels, contents, publics, transcript, challenges, scratch, answer)
+        }
+        (Kind::ProveBlinded, [selectors, labels, contents, publics, transcript, challenges, blinders, scratch]) => {
+            calls::prove_blinded(p, n, l, selectors, labels, contents, publics, transcript, challenges, blinders, scratch, answer)
         }
         (Kind::LostGammas, [contents, challenges]) => calls::lost_gammas(p, n, contents, challenges, answer),
         (Kind::ToRows, [columns, rows]) => calls::to_rows(n, columns, rows, answer),

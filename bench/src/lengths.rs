@@ -25,7 +25,13 @@ pub const PROVE_CHALLENGES: usize = 3;
 pub const CHALLENGES: usize = 4;
 pub const OPENING_CHALLENGES: usize = 2;
 
-// The words of the selectors of n rows, of what stands for every position (labels, contents, positions), of a prepared circuit and of a scratch.
+// The numbers that a transcript is blinded with: two for each wire, and three for z.
+pub const WIRE_BLINDERS: usize = 2;
+pub const Z_BLINDERS: usize = 3;
+pub const BLINDERS: usize = COLUMNS * WIRE_BLINDERS + Z_BLINDERS;
+
+// The words of the selectors of n rows, of what stands for every position (labels, contents, positions), of a prepared circuit, and of the scratch
+// of a call that has no transcript.
 pub const fn selectors(n: usize) -> usize {
     SELECTORS * n
 }
@@ -42,31 +48,43 @@ pub const fn scratch(n: usize) -> usize {
     16 * n
 }
 
-// The coefficients of a wire and of z.
-pub const fn wire(n: usize) -> usize {
-    n
+// From here on e is 1 where the transcript is blinded, and 0 where it is not.
+
+// The words of the scratch of a call that lays a transcript or is lent one.
+pub const fn work(e: usize, n: usize) -> usize {
+    scratch(n) + 64 * e
 }
 
-pub const fn z(n: usize) -> usize {
-    n
+// The coefficients of a wire and of z: (b1 X + b2)(X^n - 1) has two more than there are rows, (b7 X^2 + b8 X + b9)(X^n - 1) three more.
+pub const fn wire(e: usize, n: usize) -> usize {
+    n + WIRE_BLINDERS * e
+}
+
+pub const fn z(e: usize, n: usize) -> usize {
+    n + Z_BLINDERS * e
 }
 
 // Those of F, whose longest term is z times a factor of each column, and of its quotient by X^n - 1.
-pub const fn whole(n: usize) -> usize {
-    z(n) + COLUMNS * (wire(n) - 1)
+pub const fn whole(e: usize, n: usize) -> usize {
+    z(e, n) + COLUMNS * (wire(e, n) - 1)
 }
 
-pub const fn quotient(n: usize) -> usize {
-    whole(n) - n
+pub const fn quotient(e: usize, n: usize) -> usize {
+    whole(e, n) - n
 }
 
 // The words of a transcript, and of an opening: t is the longest polynomial, and its quotient by X - x has one coefficient less.
-pub const fn transcript(n: usize) -> usize {
-    COLUMNS * wire(n) + z(n) + quotient(n)
+pub const fn transcript(e: usize, n: usize) -> usize {
+    COLUMNS * wire(e, n) + z(e, n) + quotient(e, n)
 }
 
-pub const fn opening(n: usize) -> usize {
-    quotient(n) - 1
+pub const fn opening(e: usize, n: usize) -> usize {
+    quotient(e, n) - 1
+}
+
+// The e of a transcript that is lent: its length alone decides. One of neither length is taken for the shorter, which it is not.
+pub fn blinded_by(n: usize, lent: &[u32]) -> usize {
+    (lent.len() == transcript(1, n)) as usize
 }
 
 // Where polynomial k of a prepared circuit stands.
@@ -75,24 +93,25 @@ pub fn prepared_part(n: usize, k: usize) -> Range<usize> {
 }
 
 // Where wire k, z and t stand in a transcript.
-pub fn wire_part(n: usize, k: usize) -> Range<usize> {
-    k * wire(n)..(k + 1) * wire(n)
+pub fn wire_part(e: usize, n: usize, k: usize) -> Range<usize> {
+    k * wire(e, n)..(k + 1) * wire(e, n)
 }
 
-pub fn z_part(n: usize) -> Range<usize> {
-    COLUMNS * wire(n)..COLUMNS * wire(n) + z(n)
+pub fn z_part(e: usize, n: usize) -> Range<usize> {
+    COLUMNS * wire(e, n)..COLUMNS * wire(e, n) + z(e, n)
 }
 
-pub fn t_part(n: usize) -> Range<usize> {
-    COLUMNS * wire(n) + z(n)..transcript(n)
+pub fn t_part(e: usize, n: usize) -> Range<usize> {
+    COLUMNS * wire(e, n) + z(e, n)..transcript(e, n)
 }
 
-// A sheet: its most bytes, the numbers of a gate's line, and the words of the five buffers that it is read into.
+// A sheet: its most bytes, the numbers of a gate's line, and the words of the five buffers that it is read into, of which the last has room for the
+// challenges and the nine numbers behind them.
 pub const SHEET: usize = 65536;
 pub const GATE_LINE: usize = SELECTORS + COLUMNS;
 pub const READ: [usize; 5] = {
     let n = MOST_ROWS_SHEET as usize;
-    [selectors(n), positions(n), positions(n), n, CHALLENGES]
+    [selectors(n), positions(n), positions(n), n, CHALLENGES + BLINDERS]
 };
 
 // The bytes of the buffers for a deposit's text and for a joined sheet.

@@ -37,17 +37,23 @@ fn batch(call: &mut dyn FnMut(), calls: usize) -> f64 {
     (now() - start) / calls as f64
 }
 
-// The best of many short batches of each side, in turn, so that both meet the same disturbances.
-fn measure(name: &str, n: u32, theirs: &mut dyn FnMut(), ours: &mut dyn FnMut()) {
-    let first = batch(ours, 2).max(batch(theirs, 2)).max(0.1);
+// The best of many short batches of each of two calls, in turn, so that both meet the same disturbances.
+fn best(one: &mut dyn FnMut(), other: &mut dyn FnMut()) -> [f64; 2] {
+    let first = batch(other, 2).max(batch(one, 2)).max(0.1);
     let calls = (2_000.0 / first).max(1.0) as usize;
     let batches = (2_000_000.0 / (first * calls as f64)).clamp(15.0, 300.0) as usize;
-    let (mut plain, mut proved) = (f64::MAX, f64::MAX);
+    let mut best = [f64::MAX; 2];
     for _ in 0..batches {
-        proved = proved.min(batch(theirs, calls));
-        plain = plain.min(batch(ours, calls));
+        best[0] = best[0].min(batch(one, calls));
+        best[1] = best[1].min(batch(other, calls));
     }
-    println!("{name:<12} {n:>6} {proved:>12.2} {plain:>12.2} {:>8.2}", proved / plain);
+    best
+}
+
+// A call on both sides.
+fn measure(name: &str, n: u32, theirs: &mut dyn FnMut(), ours: &mut dyn FnMut()) {
+    let [proved, plain] = best(theirs, ours);
+    println!("{name:<22} {n:>6} {proved:>12.2} {plain:>12.2} {:>8.2}", proved / plain);
 }
 
 // A call on lent numbers, under its own name.
@@ -66,6 +72,31 @@ fn measure_named(name: &str, case: &Case) {
     });
 }
 
+// The most that prove_blinded should take of the time of prove.
+const AIM: f64 = 1.3;
+
+// The proved `prove_blinded` against the proved `prove`, on the same circuit.
+fn measure_blinding(r: &mut Random, circuit: &Circuit) {
+    let [blinded, unblinded] = [Kind::ProveBlinded, Kind::Prove].map(|kind| circuit.case(r, kind));
+    let (mut one, mut other) = (blinded.buffers.clone(), unblinded.buffers.clone());
+    let mut lent: Vec<&mut [u32]> = one.iter_mut().map(|b| &mut b[..]).collect();
+    let mut bare: Vec<&mut [u32]> = other.iter_mut().map(|b| &mut b[..]).collect();
+    let mut answers = [[7; 2]; 2];
+    let [first, second] = &mut answers;
+    let [long, short] = best(&mut || proved(black_box(&blinded), black_box(&mut lent), black_box(first)), &mut || {
+        proved(black_box(&unblinded), black_box(&mut bare), black_box(second))
+    });
+    assert!(answers == [[0; 2]; 2]);
+    let over = if long / short > AIM { ", more than the aim of" } else { ", within the aim of" };
+    println!("{:<22} {:>6} {long:>12.2} {short:>12.2} {:>8.2}{over} {AIM}", "- ProveBlinded : Prove", circuit.n, long / short);
+}
+
+// A call that is lent a transcript, unblinded and blinded.
+fn measure_both(r: &mut Random, kind: Kind, circuit: &Circuit) {
+    measure_case(&circuit.unblinded().case(r, kind));
+    measure_named(&format!("- {kind:?}, blinded"), &circuit.blinded(r).case(r, kind));
+}
+
 // Counting the gammas lost, of any contents, and of those that give the library the most work.
 fn measure_losses(r: &mut Random, n: u32) {
     measure_case(&loss_cases::any(r, LARGEST, n));
@@ -73,12 +104,12 @@ fn measure_losses(r: &mut Random, n: u32) {
 }
 
 // Reading a sheet.
-fn measure_read(n: u32, sheet: &[u8]) {
+fn measure_read(name: &str, n: u32, sheet: &[u8]) {
     let mut one = READ.map(|length| vec![0; length]);
     let mut other = one.clone();
-    let mut answer = [0; 5];
+    let mut answer = [0; 6];
     measure(
-        "Read",
+        name,
         n,
         &mut || {
             let [a, b, c, d, e] = black_box(&mut one);
@@ -93,11 +124,11 @@ fn measure_read(n: u32, sheet: &[u8]) {
 }
 
 // The text of a sheet.
-fn measure_deposit(n: u32, sheet: &[u8]) {
+fn measure_deposit(name: &str, n: u32, sheet: &[u8]) {
     let mut one = vec![0; TEXT];
     let mut other = one.clone();
     let mut answer = [0; 3];
-    measure("Deposit", n, &mut || calls::deposit(black_box(sheet), black_box(&mut one), black_box(&mut answer)), &mut || {
+    measure(name, n, &mut || calls::deposit(black_box(sheet), black_box(&mut one), black_box(&mut answer)), &mut || {
         black_box(sheets::deposit(black_box(sheet), black_box(&mut other)));
     });
     assert!(answer[0] == 0 && one == other);
@@ -122,7 +153,7 @@ fn measure_join(r: &mut Random, n: u32) {
 
 fn head(title: &str) {
     println!("\n{title}, p = {LARGEST}, microseconds for one call, best of 15 or more batches");
-    println!("{:<12} {:>6} {:>12} {:>12} {:>8}", "call", "n", "proved", "plain", "ratio");
+    println!("{:<22} {:>6} {:>12} {:>12} {:>8}", "call", "n", "proved", "plain", "ratio");
 }
 
 pub fn run() {
@@ -135,19 +166,23 @@ pub fn run() {
             Kind::Interpolate,
             Kind::Prepare,
             Kind::CheckRows,
-            Kind::CheckPoint,
-            Kind::Open,
-            Kind::CheckOpening,
             Kind::Prove,
+            Kind::ProveBlinded,
             Kind::ToRows,
             Kind::ToColumns,
         ] {
             measure_case(&circuit.case(&mut r, kind));
         }
+        measure_blinding(&mut r, &circuit);
+        for kind in [Kind::CheckPoint, Kind::Open, Kind::CheckOpening] {
+            measure_both(&mut r, kind, &circuit);
+        }
         if n <= MOST_ROWS_SHEET {
-            let sheet = sheet_of(&circuit);
-            measure_read(n, &sheet);
-            measure_deposit(n, &sheet);
+            let [sheet, blinded] = [circuit.unblinded(), circuit.blinded(&mut r)].map(|circuit| sheet_of(&circuit));
+            measure_read("Read", n, &sheet);
+            measure_read("- Read, blinded", n, &blinded);
+            measure_deposit("Deposit", n, &sheet);
+            measure_deposit("- Deposit, blinded", n, &blinded);
         }
     }
     for n in [16, 64, MOST_ROWS_SHEET / 2] {
@@ -158,14 +193,17 @@ pub fn run() {
     }
 }
 
-// How the time of `prove` grows with n, that of `join`, and that of `lost_gammas`.
+// How the time of `prove` and of `prove_blinded` grows with n, that of `join`, and that of `lost_gammas`.
 pub fn growth() {
     let mut r = Random::new(1024);
     let (_, most) = field(LARGEST).unwrap();
     head("n against time");
     let mut n = 2;
     while n <= most {
-        measure_case(&Circuit::proved(&mut r, LARGEST, n).case(&mut r, Kind::Prove));
+        let circuit = Circuit::proved(&mut r, LARGEST, n);
+        measure_case(&circuit.case(&mut r, Kind::Prove));
+        measure_case(&circuit.case(&mut r, Kind::ProveBlinded));
+        measure_blinding(&mut r, &circuit);
         n *= 2;
     }
     let mut n = 2;

@@ -1,4 +1,4 @@
-// Openings: lists of polynomials with a point and a mixing number, lent rightly and otherwise.
+// Openings: lists of polynomials, of a transcript that is blinded or not, with a point and a mixing number, lent rightly and otherwise.
 use crate::kinds::{Case, Kind};
 use crate::lengths::{self, OPENING_CHALLENGES, POLYNOMIALS};
 use crate::numbers::*;
@@ -28,18 +28,19 @@ fn coefficients(r: &mut Random, p: u32, count: usize) -> Vec<u32> {
 }
 
 impl Opening {
-    // Some list of any polynomials, which no circuit need have. The point is often a row's, and m often 0 or 1.
+    // Some list of any polynomials, which no circuit need have, of a transcript of either length. The point is often a row's, and m often 0 or 1.
     pub fn new(r: &mut Random, p: u32, n: u32) -> Opening {
         let m = n as usize;
         let length = 1 + r.below(POLYNOMIALS);
         let any = r.element(p);
         let row = r.pick(&points(p, m));
         let mixing = r.element(p);
+        let e = r.below(2);
         Opening {
             p,
             n,
             prepared: coefficients(r, p, lengths::prepared(m)),
-            transcript: coefficients(r, p, lengths::transcript(m)),
+            transcript: coefficients(r, p, lengths::transcript(e, m)),
             list: r.elements(POLYNOMIALS as u32, length),
             challenges: [r.pick(&[any, any, row, 0]), r.pick(&[mixing, mixing, mixing, 0, 1, p - 1])],
         }
@@ -49,8 +50,9 @@ impl Opening {
     pub fn case(self, r: &mut Random, kind: Kind) -> Case {
         let Opening { p, n, prepared, transcript, list, challenges } = self;
         let mut evaluations = r.words(list.len());
-        let mut opening = r.words(lengths::opening(n as usize));
-        let scratch = r.words(lengths::scratch(n as usize));
+        let e = lengths::blinded_by(n as usize, &transcript);
+        let mut opening = r.words(lengths::opening(e, n as usize));
+        let scratch = r.words(lengths::work(e, n as usize));
         if kind == Kind::CheckOpening {
             let spare = &mut scratch.clone();
             openings::open(p, n, &prepared, &transcript, &list, &mut evaluations, &mut opening, &challenges, spare);

@@ -1,5 +1,5 @@
-// Products by transforms against products row by row: by themselves, and inside `prove`, of every size of every prime that may be proved with and on both
-// sides.
+// Products by transforms against products row by row: by themselves, and inside `prove` and `prove_blinded`, of every size of every prime that may be
+// proved with and on both sides.
 use crate::cases::Circuit;
 use crate::kinds::{plainly, proved, Case, Kind};
 use crate::numbers::{field, CURRENT, LARGEST};
@@ -7,7 +7,7 @@ use crate::plain;
 use crate::polynomials::{add_product, by_rows, by_transforms, AddProduct};
 use crate::random::Random;
 
-// Factors have up to one coefficient more than this.
+// Factors have up to three coefficients more than this.
 const LONGEST: usize = 4096;
 
 // The circuits of each size.
@@ -40,9 +40,9 @@ fn try_product(r: &mut Random, one: usize, other: usize) -> usize {
     0
 }
 
-// All pairs of lengths that are a power of two, one less or one more.
+// All pairs of lengths that are a power of two, one less or up to three more, as those of blinded wires and z are.
 fn try_products(r: &mut Random) -> usize {
-    let lengths: Vec<usize> = (1..=LONGEST + 1).filter(|k| (k - 1..=k + 1).any(usize::is_power_of_two)).collect();
+    let lengths: Vec<usize> = (1..=LONGEST + 3).filter(|k| (k.saturating_sub(3)..=k + 1).any(usize::is_power_of_two)).collect();
     let (mut pairs, mut off) = (0, 0);
     for &one in &lengths {
         for &other in &lengths {
@@ -64,10 +64,17 @@ fn proved_prove(case: &Case, buffers: &mut [&mut [u32]]) -> Vec<u32> {
 
 // The plain prover with every product row by row.
 fn prove_by_rows(case: &Case, buffers: &mut [&mut [u32]]) -> Vec<u32> {
-    let [selectors, labels, contents, publics, transcript, challenges, scratch] = buffers else {
-        unreachable!("a case has the buffers of its call");
-    };
-    plain::prove_with(by_rows, case.p, case.n, case.l, selectors, labels, contents, publics, transcript, challenges, scratch).to_vec()
+    let (p, n, l) = (case.p, case.n, case.l);
+    match buffers {
+        [selectors, labels, contents, publics, transcript, challenges, scratch] => {
+            plain::prove_with(by_rows, p, n, l, selectors, labels, contents, publics, transcript, challenges, None, scratch).to_vec()
+        }
+        [selectors, labels, contents, publics, transcript, challenges, blinders, scratch] => {
+            plain::prove_with(by_rows, p, n, l, selectors, labels, contents, publics, transcript, challenges, Some(blinders), scratch)
+                .to_vec()
+        }
+        _ => unreachable!("a case has the buffers of its call"),
+    }
 }
 
 // A prover's answer, and the buffers as it leaves them.
@@ -78,15 +85,15 @@ fn made(case: &Case, prover: Prover) -> (Vec<u32>, Vec<Vec<u32>>) {
     (answer, buffers)
 }
 
-// A circuit whose filling the prover takes.
-fn try_prove(r: &mut Random, p: u32, n: u32) -> usize {
-    let case = Circuit::proved(r, p, n).case(r, Kind::Prove);
+// A circuit whose filling the provers take.
+fn try_prove(r: &mut Random, kind: Kind, p: u32, n: u32) -> usize {
+    let case = Circuit::proved(r, p, n).case(r, kind);
     let due = made(&case, prove_by_rows);
     let mut off = 0;
     for (side, prover) in [("plain", plainly as Prover), ("proved", proved_prove)] {
         let result = made(&case, prover);
         if result != due {
-            println!("DIFFERENCE from products row by row, prove, {side}, p = {p}, n = {n}, l = {}: answer {:?}", case.l, result.0);
+            println!("DIFFERENCE from products row by row, {kind:?}, {side}, p = {p}, n = {n}, l = {}: answer {:?}", case.l, result.0);
             off += 1;
         }
     }
@@ -100,13 +107,13 @@ fn try_proves(r: &mut Random) -> usize {
         let mut n = 2;
         while n <= most {
             for _ in 0..CIRCUITS {
-                off += try_prove(r, p, n);
+                off += try_prove(r, Kind::Prove, p, n) + try_prove(r, Kind::ProveBlinded, p, n);
             }
             sizes += 1;
             n *= 2;
         }
     }
-    println!("prove of {sizes} sizes, products row by row: {off} differences");
+    println!("prove and prove_blinded of {sizes} sizes, products row by row: {off} differences");
     off
 }
 

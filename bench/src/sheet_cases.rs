@@ -1,6 +1,6 @@
-// Sheets: those of generated circuits, and changes of their bytes and lines.
+// Sheets: those of generated circuits, with the line of nine numbers or without, and changes of their bytes and lines.
 use crate::cases::Circuit;
-use crate::lengths::{positions, COLUMNS, SELECTORS, SHEET};
+use crate::lengths::{positions, BLINDERS, CHALLENGES, COLUMNS, SELECTORS, SHEET};
 use crate::numbers::LARGEST;
 use crate::random::Random;
 use crate::rows::row_of;
@@ -11,7 +11,7 @@ fn push_line(out: &mut Vec<u8>, numbers: impl Iterator<Item = u32>) {
     out.push(10);
 }
 
-// The sheet of a circuit.
+// The sheet of a circuit, which ends with the nine numbers where its transcript is to be blinded.
 pub fn sheet_of(c: &Circuit) -> Vec<u8> {
     let n = c.n as usize;
     let mut out = Vec::new();
@@ -27,7 +27,23 @@ pub fn sheet_of(c: &Circuit) -> Vec<u8> {
         push_line(&mut out, [x].into_iter());
     }
     push_line(&mut out, c.challenges.into_iter());
+    if let Some(nine) = c.blinders {
+        push_line(&mut out, nine.into_iter());
+    }
     out
+}
+
+// Nine numbers, or nearly nine, and now and then one that is no element; mostly with byte 10.
+fn nearly_nine(r: &mut Random, p: u32) -> Vec<u8> {
+    let count = r.pick(&[BLINDERS, BLINDERS, BLINDERS, BLINDERS - 1, BLINDERS + 1, CHALLENGES]);
+    let wrong = r.once_in(4).then(|| r.below(count));
+    let numbers: Vec<u32> = (0..count).map(|k| if wrong == Some(k) { p } else { r.element(p.max(1)) }).collect();
+    let mut line = Vec::new();
+    push_line(&mut line, numbers.into_iter());
+    if r.once_in(6) {
+        line.pop();
+    }
+    line
 }
 
 // A byte that often stands on sheets, or nearly does; now and then any byte.
@@ -129,15 +145,26 @@ fn change_lines(r: &mut Random, sheet: &mut Vec<u8>) {
     *sheet = all.concat();
 }
 
-// Something behind the last line.
-fn append(r: &mut Random, sheet: &mut Vec<u8>) {
-    let more = match r.below(4) {
+// Something behind the last line: a line of nine numbers, or nearly, behind such a line or the challenges; or what is no such line.
+fn append(r: &mut Random, sheet: &mut Vec<u8>, p: u32) {
+    let more = match r.below(8) {
         0 => vec![10],
         1 => vec![byte(r)],
         2 => b"0\n".to_vec(),
-        _ => sheet.clone(),
+        3 => sheet.clone(),
+        _ => nearly_nine(r, p),
     };
     sheet.extend(more);
+}
+
+// Another last line in the place of the one that is there, or none.
+fn change_last(r: &mut Random, sheet: &mut Vec<u8>, p: u32) {
+    let mut all = lines(sheet);
+    all.pop();
+    *sheet = all.concat();
+    if !r.once_in(4) {
+        sheet.extend(nearly_nine(r, p));
+    }
 }
 
 // More bytes, up to about the greatest length.
@@ -162,7 +189,7 @@ pub fn change(r: &mut Random, sheet: &mut Vec<u8>, c: &Circuit) {
         1 => r.below(length.min(12)),
         _ => r.below(length),
     };
-    match r.below(11) {
+    match r.below(13) {
         0 | 1 if length > 0 => sheet[at] = byte(r),
         2 => sheet.insert(at, byte(r)),
         3 if length > 0 => {
@@ -170,7 +197,8 @@ pub fn change(r: &mut Random, sheet: &mut Vec<u8>, c: &Circuit) {
         }
         4 => sheet.truncate(at),
         5 => change_lines(r, sheet),
-        6 => append(r, sheet),
+        6 | 11 => append(r, sheet, c.p),
+        12 => change_last(r, sheet, c.p),
         7 => change_first(r, sheet, c),
         8 if r.once_in(4) => lengthen(r, sheet),
         _ => change_field(r, sheet, c.p, c.n),

@@ -2,7 +2,7 @@
 use crate::calls;
 use crate::cases::Circuit;
 use crate::compare::over;
-use crate::document::SHEET;
+use crate::document::{BLINDED, SHEET};
 use crate::lengths::{MOST_ROWS_SHEET, READ, TEXT};
 use crate::numbers::{field, PRIMES};
 use crate::random::Random;
@@ -57,7 +57,7 @@ pub fn first_difference<T: PartialEq + std::fmt::Display>(name: &str, ours: &[T]
 
 // One reading on both sides, into buffers of the given lengths.
 fn try_read(r: &mut Random, sheet: &[u8], lengths: [usize; READ.len()], count: &mut Count) {
-    let room = r.below(8);
+    let room = r.below(9);
     let mut ours: Vec<Vec<u32>> = lengths.iter().chain([&room]).map(|length| r.words(length + 2 * AROUND)).collect();
     let mut theirs = ours.clone();
     let sheet_lent = sheet.to_vec();
@@ -69,10 +69,11 @@ fn try_read(r: &mut Random, sheet: &[u8], lengths: [usize; READ.len()], count: &
     let [a, b, c, d, e, answer] = &mut theirs[..] else { unreachable!() };
     calls::read(black_box(&sheet_lent), inner(a), inner(b), inner(c), inner(d), inner(e), inner(answer));
 
-    let names = ["selectors", "labels", "contents", "public numbers", "challenges", "the answer"];
+    let names = ["selectors", "labels", "contents", "public numbers", "challenges and blinders", "the answer"];
     let difference = (0..names.len()).rev().find_map(|k| first_difference(names[k], &ours[k], &theirs[k]));
     let touched = (black_box(&sheet_lent) != sheet).then(|| "the sheet is changed".to_string());
-    count.add("Read", words[0].to_string(), &[sheet], difference.or(touched).map(|d| format!("plain answer {words:?}; {d}")));
+    let kind = if words[5] == 1 { "blinded".to_string() } else { words[0].to_string() };
+    count.add("Read", kind, &[sheet], difference.or(touched).map(|d| format!("plain answer {words:?}; {d}")));
 }
 
 // One deposit on both sides, into a buffer of the given length.
@@ -115,7 +116,7 @@ fn try_sheet(r: &mut Random, sheet: &[u8], reads: &mut Count, deposits: &mut Cou
     try_deposit(r, sheet, length, deposits);
 }
 
-// A sheet of a circuit, a third of them with a fault of the filling; if asked for, changed once or more.
+// A sheet of a circuit, half of them with the line of nine numbers, a third with a fault of the filling; if asked for, changed once or more.
 pub fn one_sheet(r: &mut Random, p: u32, n: u32, changed: bool) -> Vec<u8> {
     let mut circuit = Circuit::new(r, p, n);
     if r.once_in(3) {
@@ -162,7 +163,9 @@ pub fn sizes() -> Vec<(u32, u32)> {
 pub fn run(times: usize) -> usize {
     let mut r = Random::new(65536);
     let (mut reads, mut deposits) = (Count::default(), Count::default());
-    all_small(SHEET, |sheet| try_sheet(&mut r, sheet, &mut reads, &mut deposits));
+    for whole in [SHEET, BLINDED] {
+        all_small(whole, |sheet| try_sheet(&mut r, sheet, &mut reads, &mut deposits));
+    }
     for (p, n) in sizes() {
         for _ in 0..times * (400_000 / (n * n) as usize).clamp(150, 3000) {
             let sheet = make(&mut r, p, n);

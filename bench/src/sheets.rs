@@ -1,7 +1,9 @@
-// The sheet of document 01: reading one, and the text of a deposit, written plainly from the document.
+// The sheet of document 01, with the line of nine numbers that it may end with (document 02, request 9): reading one, and the text of a deposit,
+// written plainly from the documents.
 use crate::cases::Circuit;
 use crate::lengths::{self, COLUMNS, GATE_LINE, MOST_ROWS_SHEET, PROVE_CHALLENGES};
 use crate::plain::{self, admitted, bound, current, elements, few, labelled, Refusal};
+use crate::polynomials::add_product;
 use crate::rows::place;
 use std::fmt::Write;
 
@@ -66,15 +68,19 @@ pub fn parse(sheet: &[u8], new: bool) -> Result<Circuit, Refusal> {
     let contents = block::<COLUMNS>(&mut lines, 2 + n, n, place)?;
     let publics = block::<1>(&mut lines, 2 + 2 * n, l, |i, _| i)?;
     let challenges = line(lines.next()).ok_or([5, 2 + 2 * n + l])?;
+    let blinders = match lines.next() {
+        None => None,
+        last => Some(line(last).ok_or([5, 3 + 2 * n + l])?),
+    };
     match lines.next() {
-        Some(_) => Err([5, 3 + 2 * n + l]),
-        None => Ok(Circuit { p, n, l, selectors, labels, contents, publics, challenges }),
+        Some(_) => Err([5, 4 + 2 * n + l]),
+        None => Ok(Circuit { p, n, l, selectors, labels, contents, publics, challenges, blinders }),
     }
 }
 
 // 7, 8 and 14.
 pub fn judge(s: &Circuit) -> Result<(), Refusal> {
-    elements(s.p, &[&s.selectors, &s.contents, &s.publics, &s.challenges])?;
+    elements(s.p, &[&s.selectors, &s.contents, &s.publics, &s.challenges, s.nine()])?;
     labelled(&s.labels)?;
     bound(s.n as usize, s.l, &s.selectors)
 }
@@ -94,18 +100,18 @@ fn lay(numbers: &[u32], buffer: &mut [u32]) {
     buffer[numbers.len()..].fill(0);
 }
 
-// Selectors, labels, contents, public numbers and challenges.
-pub fn read(sheet: &[u8], lent: &mut [&mut [u32]; 5]) -> [u32; 5] {
+// Selectors, labels, contents, public numbers, and challenges with the nine numbers behind them.
+pub fn read(sheet: &[u8], lent: &mut [&mut [u32]; 5]) -> [u32; 6] {
     match decide(sheet, false, lent) {
         Ok(s) => {
             lay(&s.selectors, lent[0]);
             lay(&s.labels, lent[1]);
             lay(&s.contents, lent[2]);
             lay(&s.publics, lent[3]);
-            lay(&s.challenges, lent[4]);
-            [0, 0, s.p, s.n, s.l]
+            lay(&[&s.challenges, s.nine()].concat(), lent[4]);
+            [0, 0, s.p, s.n, s.l, s.e() as u32]
         }
-        Err([number, detail]) => [number, detail, 0, 0, 0],
+        Err([number, detail]) => [number, detail, 0, 0, 0, 0],
     }
 }
 
@@ -117,25 +123,28 @@ fn print_line(out: &mut String, word: &str, numbers: &[u32]) {
     out.push('\n');
 }
 
-// The five polynomials and the point verdict.
+// The five polynomials, blinded where the line of nine numbers is there, and the point verdict.
 fn print_work(s: &Circuit) -> Result<String, Refusal> {
-    let n = s.n as usize;
-    let mut transcript = vec![0; lengths::transcript(n)];
+    let (e, n) = (s.e(), s.n as usize);
+    let mut transcript = vec![0; lengths::transcript(e, n)];
     let mut prepared = vec![0; lengths::prepared(n)];
     let scratch = &mut vec![0; lengths::scratch(n)];
+    let work = &mut vec![0; lengths::work(e, n)];
     let challenges = &s.challenges[..PROVE_CHALLENGES];
-    let made = plain::prove(s.p, s.n, s.l, &s.selectors, &s.labels, &s.contents, &s.publics, &mut transcript, challenges, scratch);
+    let blinders = s.blinders.as_ref().map(|nine| &nine[..]);
+    let (q, k, c, x) = (&s.selectors, &s.labels, &s.contents, &s.publics);
+    let made = plain::prove_with(add_product, s.p, s.n, s.l, q, k, c, x, &mut transcript, challenges, blinders, work);
     if made[0] != 0 {
         return Err(made);
     }
-    plain::prepare(s.p, s.n, s.l, &s.selectors, &s.labels, &mut prepared, scratch);
-    let verdict = plain::check_point(s.p, s.n, s.l, &s.publics, &prepared, &transcript, &s.challenges, scratch);
+    plain::prepare(s.p, s.n, s.l, q, k, &mut prepared, scratch);
+    let verdict = plain::check_point(s.p, s.n, s.l, x, &prepared, &transcript, &s.challenges, work);
     let mut out = String::new();
     for (k, letter) in ["a", "b", "c"].into_iter().enumerate() {
-        print_line(&mut out, letter, &transcript[lengths::wire_part(n, k)]);
+        print_line(&mut out, letter, &transcript[lengths::wire_part(e, n, k)]);
     }
-    print_line(&mut out, "z", &transcript[lengths::z_part(n)]);
-    print_line(&mut out, "t", &transcript[lengths::t_part(n)]);
+    print_line(&mut out, "z", &transcript[lengths::z_part(e, n)]);
+    print_line(&mut out, "t", &transcript[lengths::t_part(e, n)]);
     print_line(&mut out, ["none", "accept", "reject"][verdict[2] as usize], &[]);
     Ok(out)
 }

@@ -98,14 +98,14 @@ impl Meter {
         }
         buffers.iter_mut().for_each(|b| arguments.slice(b));
         arguments.slice(&mut answer);
-        (unsafe { self.depth(name_of(case.kind), &arguments) }, answer[0])
+        (unsafe { self.depth(case.kind.name(), &arguments) }, answer[0])
     }
 
     // Reading a sheet.
     fn read(&mut self, sheet: &[u8]) -> (usize, u32) {
         let mut sheet = sheet.to_vec();
         let mut buffers = READ.map(|length| vec![0u32; length]);
-        let mut answer = [0; 5];
+        let mut answer = [0; 6];
         let mut arguments = Arguments::default();
         arguments.slice(&mut sheet);
         buffers.iter_mut().for_each(|b| arguments.slice(b));
@@ -139,24 +139,6 @@ impl Meter {
     }
 }
 
-fn name_of(kind: Kind) -> &'static str {
-    match kind {
-        Kind::Inverse => "inverse",
-        Kind::Evaluate => "evaluate",
-        Kind::Interpolate => "interpolate",
-        Kind::Permutation => "permutation",
-        Kind::Prepare => "prepare",
-        Kind::CheckRows => "check_rows",
-        Kind::CheckPoint => "check_point",
-        Kind::Open => "open",
-        Kind::CheckOpening => "check_opening",
-        Kind::Prove => "prove",
-        Kind::LostGammas => "lost_gammas",
-        Kind::ToRows => "to_rows",
-        Kind::ToColumns => "to_columns",
-    }
-}
-
 // A circuit with as many public inputs as rows, whose filling the prover takes.
 fn largest(r: &mut Random, n: u32) -> Circuit {
     loop {
@@ -186,24 +168,26 @@ fn show(name: &str, rows: &str, bytes: usize) -> usize {
     1
 }
 
-// A kind at 1,024 rows, and further inputs, good and damaged, at the greatest rows of each prime.
+// A kind at 1,024 rows, with a blinded transcript and with an unblinded one, and further inputs, good and damaged, at the greatest rows of each prime.
 fn try_kind(r: &mut Random, meter: &mut Meter, kind: Kind, circuit: &Circuit) -> usize {
-    let first = circuit.case(r, kind);
-    let mut others = Vec::new();
+    let first = circuit.blinded(r).case(r, kind);
+    let mut others = vec![circuit.unblinded().case(r, kind)];
     for k in 0..FURTHER {
         let p = if k % 4 < 2 { LARGEST } else { PRIMES[k % 2] };
         let (_, rows) = field(p).unwrap();
         others.push(compare::make(r, kind, p, rows));
     }
-    let bytes = most(name_of(kind), &first, &others, |case| meter.case(case));
+    let bytes = most(kind.name(), &first, &others, |case| meter.case(case));
     let rows = if kind == Kind::Inverse { "-".to_string() } else { circuit.n.to_string() };
-    show(name_of(kind), &rows, bytes)
+    show(kind.name(), &rows, bytes)
 }
 
-// Reading and depositing at 256 rows, and further sheets, good and damaged, and noise.
+// Reading and depositing at 256 rows, blinded and not, and further sheets, good and damaged, and noise.
 fn try_sheets(r: &mut Random, meter: &mut Meter) -> usize {
-    let first = sheet_of(&largest(r, MOST_ROWS_SHEET));
+    let circuit = largest(r, MOST_ROWS_SHEET);
+    let first = sheet_of(&circuit.blinded(r));
     let mut others: Vec<Vec<u8>> = (0..FURTHER).map(|_| sheet_compare::make(r, LARGEST, MOST_ROWS_SHEET)).collect();
+    others.push(sheet_of(&circuit.unblinded()));
     others.extend((0..FURTHER).map(|_| noise(r)));
     let read = most("read", &first, &others, |sheet| meter.read(sheet));
     let deposit = most("deposit", &first, &others, |sheet| meter.deposit(sheet));
@@ -214,7 +198,7 @@ fn try_sheets(r: &mut Random, meter: &mut Meter) -> usize {
 // Joining two sheets of 128 rows, and further pairs, good and damaged, of 256 rows too, and noise.
 fn try_joins(r: &mut Random, meter: &mut Meter) -> usize {
     let half = MOST_ROWS_SHEET / 2;
-    let first = [sheet_of(&largest(r, half)), sheet_of(&largest(r, half))];
+    let first = [0, 1].map(|_| sheet_of(&largest(r, half).blinded(r)));
     let mut others: Vec<Pair> = (0..FURTHER).map(|k| join_compare::make(r, LARGEST, [half, MOST_ROWS_SHEET][k % 2])).collect();
     others.extend((0..FURTHER).map(|_| join_compare::noisy(r)));
     let bytes = most("join", &first, &others, |pair| meter.join(pair));
