@@ -27,11 +27,18 @@ static const uint32_t list[] = {8, 9, 10, 11, 12};
 static const uint32_t point[GUPPYSPOON_OPEN_CHALLENGES] = {2, 3};
 static const uint32_t evaluated[] = {0, 10, 3, 3, 8};
 static const uint32_t opened[GUPPYSPOON_OPENING_LENGTH(N)] = {14, 8};
+static const uint32_t nine[GUPPYSPOON_BLINDERS_LENGTH] = {1, 2, 3, 4, 5, 6, 7, 8, 9};
+static const uint32_t blinded_proof[GUPPYSPOON_BLINDED_TRANSCRIPT_LENGTH(N)] = {2, 14, 2, 1, 9,  4, 4, 3,  3,  9,  6, 5, 7,  11, 2,
+                                                                                8, 7,  16, 10, 5, 0, 13, 15, 12, 1, 1, 12, 4, 0};
+static const uint32_t blinded_evaluated[] = {12, 6, 0, 9, 15};
+static const uint32_t blinded_opened[GUPPYSPOON_BLINDED_OPENING_LENGTH(N)] = {16, 13, 15, 8, 12, 2, 8, 6, 5, 1, 0};
 static const char sheet[] = "17,2,0\n0,0,16,1,0,0,1,2\n1,1,16,0,0,2,2,3\n2,3,6\n6,6,12\n1,1,2,2\n";
+static const char blinded_sheet[] = "17,2,0\n0,0,16,1,0,0,1,2\n1,1,16,0,0,2,2,3\n2,3,6\n6,6,12\n1,1,2,2\n1,2,3,4,5,6,7,8,9\n";
 static const char public_sheet[] = "17,2,1\n1,0,0,0,0,0,1,2\n1,1,16,0,0,2,2,3\n2,3,6\n6,6,12\n2\n3,4,5,6\n";
 static const char both[] = "17,4,1\n1,0,0,0,0,6,7,8\n0,0,16,1,0,0,1,2\n1,1,16,0,0,2,2,3\n1,1,16,0,0,8,8,9\n"
                            "2,3,6\n2,3,6\n6,6,12\n6,6,12\n2\n1,1,2,2\n";
 static const char printed[] = "a,4,15\nb,13,7\nc,9,14\nz,16,2\nt,9,12,15\naccept\n";
+static const char blinded_printed[] = "a,2,14,2,1\nb,9,4,4,3\nc,3,9,6,5\nz,7,11,2,8,7\nt,16,10,5,0,13,15,12,1,1,12,4,0\naccept\n";
 
 static uint32_t values[N];
 static uint32_t coefficients[N];
@@ -43,6 +50,9 @@ static uint32_t transcript[GUPPYSPOON_TRANSCRIPT_LENGTH(N)];
 static uint32_t evaluations[GUPPYSPOON_LIST_MOST_LENGTH + 1];
 static uint32_t opening[GUPPYSPOON_OPENING_LENGTH(N)];
 static uint32_t scratch[GUPPYSPOON_SCRATCH_LENGTH(N)];
+static uint32_t blinded_transcript[GUPPYSPOON_BLINDED_TRANSCRIPT_LENGTH(N)];
+static uint32_t blinded_opening[GUPPYSPOON_BLINDED_OPENING_LENGTH(N)];
+static uint32_t blinded_scratch[GUPPYSPOON_BLINDED_SCRATCH_LENGTH(N)];
 static uint32_t sheet_selectors[GUPPYSPOON_SHEET_SELECTORS_LENGTH];
 static uint32_t sheet_labels[GUPPYSPOON_SHEET_LABELS_LENGTH];
 static uint32_t sheet_witness[GUPPYSPOON_SHEET_WITNESS_LENGTH];
@@ -110,6 +120,19 @@ static void read(const uint8_t *bytes, size_t length)
 static void join(const char *one, const char *two, size_t length)
 {
     guppyspoon_join(SHEET(one), SHEET(two), joined, length, LENT(answer));
+}
+
+static void prove_blinded(const uint32_t *blinders)
+{
+    guppyspoon_prove_blinded(P, N, L, LENT(selectors), LENT(labels), LENT(witness), publics, L, LENT(blinded_transcript), three,
+                             GUPPYSPOON_PROVE_BLINDED_CHALLENGES, blinders, GUPPYSPOON_BLINDERS_LENGTH, LENT(blinded_scratch), LENT(answer));
+}
+
+/* A transcript of some length, with a scratch of some length. */
+static void check_length(size_t transcript_length, size_t scratch_length)
+{
+    guppyspoon_check_point(P, N, L, publics, L, LENT(prepared), blinded_proof, transcript_length, LENT(four), blinded_scratch, scratch_length,
+                           LENT(answer));
 }
 
 /* Behind the joined sheet there are zeros, and a refusal leaves all of it. */
@@ -194,7 +217,7 @@ static void every_call(void)
     expect_that("the evaluations", memcmp(evaluations, evaluated, sizeof evaluated) == 0);
     expect_that("the opening polynomial", memcmp(opening, opened, sizeof opened) == 0);
     read(SHEET(sheet));
-    EXPECT("read", GUPPYSPOON_READ_WORDS, GUPPYSPOON_ACCEPTED, 0, P, N, L);
+    EXPECT("read", GUPPYSPOON_READ_WORDS, GUPPYSPOON_ACCEPTED, 0, P, N, L, 0);
     expect_that("the sheet's witness", memcmp(sheet_witness, witness, sizeof witness) == 0);
     guppyspoon_deposit(SHEET(sheet), LENT(text), LENT(answer));
     EXPECT("deposit", GUPPYSPOON_DEPOSIT_WORDS, GUPPYSPOON_ACCEPTED, 0, sizeof printed - 1);
@@ -228,17 +251,56 @@ static void every_verdict(void)
     EXPECT("no opening verdict", GUPPYSPOON_CHECK_OPENING_WORDS, GUPPYSPOON_BAD_ELEMENT, 31, GUPPYSPOON_POINT_NONE);
 }
 
+/* Every call that lays a blinded transcript or is lent one, and the lengths that go together. The prepared circuit is that of every_call. */
+static void every_blinded_call(void)
+{
+    prove_blinded(nine);
+    EXPECT("prove_blinded", GUPPYSPOON_PROVE_BLINDED_WORDS, GUPPYSPOON_ACCEPTED, 0);
+    expect_that("the blinded transcript", memcmp(blinded_transcript, blinded_proof, sizeof blinded_proof) == 0);
+    prove_blinded((const uint32_t[]){1, 2, 3, 4, 5, 6, 7, 8, P});
+    EXPECT("prove_blinded, reason 7", GUPPYSPOON_PROVE_BLINDED_WORDS, GUPPYSPOON_BAD_ELEMENT, 27);
+    check_length(GUPPYSPOON_BLINDED_TRANSCRIPT_LENGTH(N), GUPPYSPOON_BLINDED_SCRATCH_LENGTH(N));
+    EXPECT("blinded, accept", GUPPYSPOON_CHECK_POINT_WORDS, GUPPYSPOON_ACCEPTED, 0, GUPPYSPOON_POINT_ACCEPT);
+    check_length(GUPPYSPOON_BLINDED_TRANSCRIPT_LENGTH(N), GUPPYSPOON_SCRATCH_LENGTH(N));
+    EXPECT("the shorter scratch", GUPPYSPOON_CHECK_POINT_WORDS, GUPPYSPOON_BAD_LENGTH, 5, GUPPYSPOON_POINT_NONE);
+    check_length(GUPPYSPOON_BLINDED_TRANSCRIPT_LENGTH(N) - 1, GUPPYSPOON_BLINDED_SCRATCH_LENGTH(N));
+    EXPECT("neither length", GUPPYSPOON_CHECK_POINT_WORDS, GUPPYSPOON_BAD_LENGTH, 3, GUPPYSPOON_POINT_NONE);
+    guppyspoon_open(P, N, LENT(prepared), LENT(blinded_proof), LENT(list), evaluations, sizeof list / sizeof *list, LENT(blinded_opening),
+                    LENT(point), LENT(blinded_scratch), LENT(answer));
+    EXPECT("blinded, open", GUPPYSPOON_OPEN_WORDS, GUPPYSPOON_ACCEPTED, 0);
+    expect_that("the blinded evaluations", memcmp(evaluations, blinded_evaluated, sizeof blinded_evaluated) == 0);
+    expect_that("the blinded opening", memcmp(blinded_opening, blinded_opened, sizeof blinded_opened) == 0);
+    guppyspoon_check_opening(P, N, LENT(prepared), LENT(blinded_proof), LENT(list), LENT(blinded_evaluated), LENT(blinded_opened), LENT(point),
+                             LENT(blinded_scratch), LENT(answer));
+    EXPECT("blinded, opening accepted", GUPPYSPOON_CHECK_OPENING_WORDS, GUPPYSPOON_ACCEPTED, 0, GUPPYSPOON_POINT_ACCEPT);
+}
+
+/* A sheet with the line of nine numbers, read, deposited and joined. */
+static void every_blinded_sheet(void)
+{
+    read(SHEET(blinded_sheet));
+    EXPECT("blinded, read", GUPPYSPOON_READ_WORDS, GUPPYSPOON_ACCEPTED, 0, P, N, L, 1);
+    expect_that("the challenges", memcmp(sheet_challenges, four, sizeof four) == 0);
+    expect_that("the nine", memcmp(sheet_challenges + GUPPYSPOON_CHECK_POINT_CHALLENGES, nine, sizeof nine) == 0);
+    guppyspoon_deposit(SHEET(blinded_sheet), LENT(text), LENT(answer));
+    EXPECT("blinded, deposit", GUPPYSPOON_DEPOSIT_WORDS, GUPPYSPOON_ACCEPTED, 0, sizeof blinded_printed - 1);
+    expect_that("the blinded text", memcmp(text, blinded_printed, sizeof blinded_printed) == 0);
+    join(blinded_sheet, public_sheet, sizeof joined);
+    EXPECT("blinded, join", GUPPYSPOON_JOIN_WORDS, GUPPYSPOON_ACCEPTED, 0, sizeof both - 1);
+    expect_that("the line of nine is dropped", memcmp(joined, both, sizeof both) == 0);
+}
+
 /* The reasons that came with no join and no verdict above. */
 static void every_reason(void)
 {
     read(SHEET("17,2\n"));
-    EXPECT("reason 1", GUPPYSPOON_READ_WORDS, GUPPYSPOON_BAD_START, 0, 0, 0, 0);
+    EXPECT("reason 1", GUPPYSPOON_READ_WORDS, GUPPYSPOON_BAD_START, 0, 0, 0, 0, 0);
     guppyspoon_inverse(P + 1, 3, LENT(answer));
     EXPECT("reason 2", GUPPYSPOON_INVERSE_WORDS, GUPPYSPOON_BAD_PRIME, 0, 0, GUPPYSPOON_NO_ELEMENT);
     guppyspoon_permutation(P, N + 1, LENT(labels), LENT(positions), LENT(answer));
     EXPECT("reason 3", GUPPYSPOON_PERMUTATION_WORDS, GUPPYSPOON_BAD_ROWS, 0);
     read(SHEET("17,2,0\n0,0,16,1,0,0,1,2\n1,1,16\n"));
-    EXPECT("reason 5", GUPPYSPOON_READ_WORDS, GUPPYSPOON_BAD_LINE, 3, 0, 0, 0);
+    EXPECT("reason 5", GUPPYSPOON_READ_WORDS, GUPPYSPOON_BAD_LINE, 3, 0, 0, 0, 0);
     guppyspoon_deposit(SHEET(sheet), text, GUPPYSPOON_TEXT_LENGTH - 1, LENT(answer));
     EXPECT("reason 6", GUPPYSPOON_DEPOSIT_WORDS, GUPPYSPOON_BAD_LENGTH, 2, 0);
     guppyspoon_permutation(P, N, (const uint32_t[]){0, 2, 1, 2, 2, 6}, GUPPYSPOON_LABELS_LENGTH(N), LENT(positions), LENT(answer));
@@ -271,7 +333,7 @@ static void retired_prime(void)
     join(sheet, retired, GUPPYSPOON_JOINED_LENGTH);
     EXPECT("join, reason 16", GUPPYSPOON_JOIN_WORDS, GUPPYSPOON_RETIRED_PRIME, 0, 0);
     read(SHEET(retired));
-    EXPECT("read over 97", GUPPYSPOON_READ_WORDS, GUPPYSPOON_ACCEPTED, 0, 97, N, L);
+    EXPECT("read over 97", GUPPYSPOON_READ_WORDS, GUPPYSPOON_ACCEPTED, 0, 97, N, L, 0);
 }
 
 /* So many rows of a prime are taken, and twice as many are not. Only labels are lent: all zeros. */
@@ -291,10 +353,10 @@ static void most_rows_sheet(void)
     char line[40];
     sprintf(line, "%d,%d,0\n", LARGEST, GUPPYSPOON_MOST_ROWS_SHEET);
     read(SHEET(line));
-    EXPECT("most rows of a sheet", GUPPYSPOON_READ_WORDS, GUPPYSPOON_BAD_LINE, 2, 0, 0, 0);
+    EXPECT("most rows of a sheet", GUPPYSPOON_READ_WORDS, GUPPYSPOON_BAD_LINE, 2, 0, 0, 0, 0);
     sprintf(line, "%d,%d,0\n", LARGEST, 2 * GUPPYSPOON_MOST_ROWS_SHEET);
     read(SHEET(line));
-    EXPECT("most rows of a sheet", GUPPYSPOON_READ_WORDS, GUPPYSPOON_BAD_ROWS, 0, 0, 0, 0);
+    EXPECT("most rows of a sheet", GUPPYSPOON_READ_WORDS, GUPPYSPOON_BAD_ROWS, 0, 0, 0, 0, 0);
 }
 
 /* A sheet with zeros behind its last line, which are a line 7 out of form, up to the greatest length and past it. */
@@ -303,9 +365,9 @@ static void most_bytes(void)
     static uint8_t bytes[GUPPYSPOON_SHEET_MOST_BYTES + 1];
     memcpy(bytes, sheet, sizeof sheet);
     read(bytes, GUPPYSPOON_SHEET_MOST_BYTES);
-    EXPECT("most bytes", GUPPYSPOON_READ_WORDS, GUPPYSPOON_BAD_LINE, 7, 0, 0, 0);
+    EXPECT("most bytes", GUPPYSPOON_READ_WORDS, GUPPYSPOON_BAD_LINE, 7, 0, 0, 0, 0);
     read(bytes, GUPPYSPOON_SHEET_MOST_BYTES + 1);
-    EXPECT("most bytes", GUPPYSPOON_READ_WORDS, GUPPYSPOON_BAD_START, 0, 0, 0, 0);
+    EXPECT("most bytes", GUPPYSPOON_READ_WORDS, GUPPYSPOON_BAD_START, 0, 0, 0, 0, 0);
 }
 
 /* So many numbers of polynomials are taken, and one more is not. */
@@ -327,6 +389,8 @@ int main(void)
     every_gamma();
     every_transfer();
     every_verdict();
+    every_blinded_call();
+    every_blinded_sheet();
     every_reason();
     retired_prime();
     most_rows("most rows of 17", 17, GUPPYSPOON_MOST_ROWS_17);

@@ -1,6 +1,6 @@
 // The programs deposit, join and filed, run as a user may run them. What comes on standard output and on standard error is held to what should: a
 // whole text, or none, and what failed, in the system's words.
-use crate::document::SHEET;
+use crate::document::{BLINDED, SHEET};
 use crate::header::root;
 use crate::lengths::{self, JOINED};
 use crate::running::{run as run_command, Input, Output};
@@ -12,9 +12,11 @@ use std::process::Command;
 
 const PROGRAMS: [&str; 3] = ["deposit", "join", "filed"];
 
-// Files in the folder that the programs are run in: a sheet, the same over the retired prime with its text, no bytes, as many as a sheet may have,
-// one more, and one that may not be read. There are also a folder, and a name that no file has.
+// Files in the folder that the programs are run in: a sheet, the same with the line of nine numbers and with its text, the same over the retired prime
+// with its text, no bytes, as many as a sheet may have, one more, and one that may not be read. There are also a folder, and a name that no file has.
 const WORKED: &str = "worked.sheet";
+const NINE: &str = "nine.sheet";
+const NINE_TEXT: &str = "nine.out";
 const FILED: [&str; 2] = ["filed.sheet", "filed.out"];
 const EMPTY: &str = "empty";
 const LONGEST: &str = "longest";
@@ -44,6 +46,8 @@ fn lengthened(length: usize) -> Vec<u8> {
 // What stands in the file of a name.
 fn bytes_of(name: &str) -> Vec<u8> {
     match name {
+        NINE => BLINDED.to_vec(),
+        NINE_TEXT => sheets::printed(BLINDED).into_bytes(),
         EMPTY => vec![],
         LONGEST => lengthened(lengths::SHEET),
         LONGER => lengthened(lengths::SHEET + 1),
@@ -81,7 +85,7 @@ impl Bench {
         for program in PROGRAMS {
             fs::copy(root().join("target/bin").join(program), folder.join(program))?;
         }
-        for name in [WORKED, EMPTY, LONGEST, LONGER, SECRET] {
+        for name in [WORKED, NINE, NINE_TEXT, EMPTY, LONGEST, LONGER, SECRET] {
             fs::write(folder.join(name), bytes_of(name))?;
         }
         fs::set_permissions(folder.join(SECRET), fs::Permissions::from_mode(0o000))?;
@@ -129,12 +133,14 @@ impl Bench {
     fn deposit(&mut self) {
         let words = ["deposit"];
         let whole = || Input::AtOnce(SHEET.to_vec());
-        for name in [WORKED, EMPTY, LONGEST, LONGER] {
+        for name in [WORKED, NINE, EMPTY, LONGEST, LONGER] {
             let sheet = bytes_of(name);
             let text = sheets::printed(&sheet);
             self.prints(name, &words, Input::AtOnce(sheet), text.as_bytes());
         }
-        self.prints("a byte at a time", &words, Input::ByteByByte(SHEET.to_vec()), sheets::printed(SHEET).as_bytes());
+        for sheet in [SHEET, BLINDED] {
+            self.prints("a byte at a time", &words, Input::ByteByByte(sheet.to_vec()), sheets::printed(sheet).as_bytes());
+        }
         self.no_output(&words, whole);
         let start = SHEET[..SHEET.len() - 8].to_vec();
         for (way, input, word) in [
@@ -142,13 +148,14 @@ impl Bench {
             ("an input that may not be read", Input::Unreadable, "Bad file descriptor"),
             ("a closed input", Input::Closed, "Bad file descriptor"),
             ("an input that breaks off before its last line", Input::BreaksOff(start), "Input/output error"),
+            ("an input that breaks off where a line of nine may follow", Input::BreaksOff(SHEET.to_vec()), "Input/output error"),
         ] {
             self.tells(way, &words, input, Output::Taken, &format!("standard input: {word}\n"));
         }
     }
 
     fn join(&mut self) {
-        for name in [WORKED, EMPTY, LONGEST, LONGER] {
+        for name in [WORKED, NINE, EMPTY, LONGEST, LONGER] {
             let sheet = bytes_of(name);
             self.prints("a first sheet", &["join", name, WORKED], Input::Nothing, &joined(&sheet, SHEET));
             self.prints("a second sheet", &["join", WORKED, name], Input::Nothing, &joined(SHEET, &sheet));
@@ -181,6 +188,8 @@ impl Bench {
         self.prints("a deposit", &["filed", sheet, text], Input::Nothing, &lines);
         let bytes = fs::read(self.folder.join(sheet)).unwrap();
         self.prints("a byte at a time", &["filed", INPUT, text], Input::ByteByByte(bytes), &self.filed_lines(INPUT));
+        let due = format!("{NINE},0,0,17,2,0,accept,as filed,17,of,17,pass\n");
+        self.try_run("a blinded deposit", &["filed", NINE, NINE_TEXT], Input::Nothing, Output::Taken, false, due.as_bytes(), "");
         for name in [EMPTY, LONGEST, LONGER] {
             let mut own = lengths::READ.map(|length| vec![0; length]);
             let [number, detail, ..] = sheets::read(&bytes_of(name), &mut own.each_mut().map(|b| &mut b[..]));
