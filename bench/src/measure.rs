@@ -53,7 +53,7 @@ fn best(one: &mut dyn FnMut(), other: &mut dyn FnMut()) -> [f64; 2] {
 // A call on both sides.
 fn measure(name: &str, n: u32, theirs: &mut dyn FnMut(), ours: &mut dyn FnMut()) {
     let [proved, plain] = best(theirs, ours);
-    println!("{name:<22} {n:>6} {proved:>12.2} {plain:>12.2} {:>8.2}", proved / plain);
+    println!("{name:<24} {n:>6} {proved:>12.2} {plain:>12.2} {:>8.2}", proved / plain);
 }
 
 // A call on lent numbers, under its own name.
@@ -88,7 +88,7 @@ fn measure_blinding(r: &mut Random, circuit: &Circuit) {
     });
     assert!(answers == [[0; 2]; 2]);
     let over = if long / short > AIM { ", more than the aim of" } else { ", within the aim of" };
-    println!("{:<22} {:>6} {long:>12.2} {short:>12.2} {:>8.2}{over} {AIM}", "- ProveBlinded : Prove", circuit.n, long / short);
+    println!("{:<24} {:>6} {long:>12.2} {short:>12.2} {:>8.2}{over} {AIM}", "- ProveBlinded : Prove", circuit.n, long / short);
 }
 
 // A call that is lent a transcript, unblinded and blinded.
@@ -153,7 +153,7 @@ fn measure_join(r: &mut Random, n: u32) {
 
 fn head(title: &str) {
     println!("\n{title}, p = {LARGEST}, microseconds for one call, best of 15 or more batches");
-    println!("{:<22} {:>6} {:>12} {:>12} {:>8}", "call", "n", "proved", "plain", "ratio");
+    println!("{:<24} {:>6} {:>12} {:>12} {:>8}", "call", "n", "proved", "plain", "ratio");
 }
 
 pub fn run() {
