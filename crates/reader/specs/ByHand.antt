@@ -12,16 +12,16 @@ use Prim.Native.Nat.{ℕ, _+_, _*_, _%_, _^_}
 use lib.ListN.{getD}
 use Rattle.algebra.specs.Lists.{tab, gathered, All, occurs, different}
 use Rattle.algebra.specs.Modular.{powF, first, inverse}
-use Rattle.algebra.specs.Polynomial.{coef, eval, addP, scaleP, mulP, linear, dilate, reduced, quotientVanishing, remainderVanishing}
+use Rattle.algebra.specs.Polynomial.{coef, eval, addP, scaleP, mulP, linear, dilate, reduced, timesVanishing, quotientVanishing, remainderVanishing}
 use Rattle.field.specs.Fields.{generator, root, point, multiplier, tag}
 use Rattle.transform.specs.Transform.{evaluation, interpolation}
 use Rattle.transform.specs.Parts.{laid}
 use Rattle.transform.specs.Passes.{strided, oddWord, passed}
 use Rattle.circuit.specs.Buffers.{wirePart, zPart, tPart}
-use Rattle.circuit.specs.Circuit.{Constraints, lentConstraints, lentPublic, witnessPlace, lentBy, laidBy, byRows, laidWitness, permutation, gate}
+use Rattle.circuit.specs.Circuit.{Constraints, lentConstraints, lentPublic, lentWitness, witnessPlace, lentBy, laidBy, byRows, laidWitness, permutation, gate}
 use Rattle.circuit.specs.Worked.{publicSelectors, labels}
-use Rattle.protocol.specs.Protocol.{wiredTag, runningZ, rowN, rowD, polyN, polyD, polyL, gatePart, stepPart, startPart, polyF, quotient, preparedPoly, prepared, blinded, wiresOf, proved, pass, fails, gateIdentity, startIdentity, stepIdentity, rowsFrom, rowVerdict, accept, pointVerdict, zeroFactor, tagged, lostGammas}
-use Rattle.protocol.specs.Worked.{circuit, publics, witness, lastIs11, rowIs5-7-12, zWorked, Case, Value, number, inverted, numbers, perhaps, rows, atPoint, _&_}
+use Rattle.protocol.specs.Protocol.{wiredTag, runningZ, rowN, rowD, polyN, polyD, polyL, gatePart, stepPart, startPart, polyF, quotient, preparedPoly, prepared, wireBlinder, zBlinder, blinded, wiresOf, zOf, proved, pass, fails, gateIdentity, startIdentity, stepIdentity, rowsFrom, rowVerdict, accept, pointVerdict, brokenCopy, zeroFactor, tagged, lostGammas}
+use Rattle.protocol.specs.Worked.{circuit, publics, witness, lastIs11, rowIs5-7-12, zWorked, nine, zBlinded, tBlinded, Case, Value, number, inverted, numbers, perhaps, rows, atPoint, _&_}
 use Rattle.opening.specs.Opening.{polynomialOf, less, named, evaluationsOf, mixtureOf}
 use Rattle.opening.specs.Worked as opened
 
@@ -112,6 +112,23 @@ filedZ = zPart 0 2 filedTranscript
 
 abbrev at2 : List ℕ → ℕ
 at2 f = eval f 2 % 97
+
+-- the sheet blinded by 1, 2, .., 9; the same with 3 and 2 in row 0, and the nine that make the same five values of it
+abbrev blindedWire : ℕ → List ℕ
+blindedWire = wiresOf 1 17 2 witness nine
+
+abbrev swapped : ℕ → ℕ
+swapped = lentWitness 2 (3 ∷ 2 ∷ 6 ∷ 6 ∷ 6 ∷ 12 ∷ [])
+
+abbrev otherNine : List ℕ
+otherNine = 1 ∷ 10 ∷ 3 ∷ 13 ∷ 5 ∷ 6 ∷ 7 ∷ 8 ∷ 9 ∷ []
+
+-- the value of a polynomial at 2; the five values: three wires and z at 2, and z at w × 2
+abbrev in17 : List ℕ → ℕ
+in17 f = eval f 2 % 17
+
+abbrev fiveOf : (ℕ → List ℕ) → List ℕ → List ℕ
+fiveOf wires f = tab (λ c. in17 (wires c)) 3 ++ (in17 f ∷ eval f (root 17 2 * 2) % 17 ∷ [])
 
 abbrev pub table : List Case
 table =
@@ -210,8 +227,33 @@ table =
     ∷ record { what = "97: (z - 1) × L at 2"; is = number (at2 (startPart 97 2 filedZ)); should = number 21 }
     ∷ record { what = "97: F(2)"; is = number (at2 (polyF 97 2 filedPre filedWire (interpolation 97 2 publics) filedZ 1 1 2)); should = number 35 }
     ∷ record { what = "97: the verdict at 2"; is = atPoint (pointVerdict 0 97 2 (prepared 97 2 filed) publics filedTranscript 1 1 2 2); should = atPoint accept }
+    ∷ record { what = "3 and 2 in row 0: gates"; is = numbers (tab (gate 17 2 circuit publics swapped) 2); should = numbers (0 ∷ 0 ∷ []) }
+    ∷ record { what = "3 and 2 in row 0: the first copy that is broken, 6 for none"; is = number (brokenCopy 2 circuit swapped); should = number 6 }
+    ∷ record { what = "3 and 2 in row 0: the row that 11 names, 2 for none"; is = number (zeroFactor 17 2 circuit swapped 1 1); should = number 2 }
+    ∷ record { what = "3 and 2 in row 0: a, b, c"; is = numbers (laid (wiresOf 0 17 2 swapped []) 3); should = numbers (13 ∷ 7 ∷ 4 ∷ 15 ∷ 9 ∷ 14 ∷ []) }
+    ∷ record { what = "3 and 2 in row 0: z"; is = perhaps (zOf 0 17 2 circuit swapped [] 1 1); should = perhaps (some z) }
+    ∷ record { what = "five values, 2 and 3 in row 0"; is = numbers (fiveOf wire z); should = numbers (0 ∷ 10 ∷ 3 ∷ 3 ∷ 12 ∷ []) }
+    ∷ record { what = "five values, 3 and 2 in row 0"; is = numbers (fiveOf (wiresOf 0 17 2 swapped []) z); should = numbers (10 ∷ 0 ∷ 3 ∷ 3 ∷ 12 ∷ []) }
+    ∷ record { what = "blinded: what is added to a"; is = numbers (reduced 17 4 (timesVanishing 17 2 (wireBlinder 1 nine 0))); should = numbers (15 ∷ 16 ∷ 2 ∷ 1 ∷ []) }
+    ∷ record { what = "blinded: what is added to z"; is = numbers (reduced 17 5 (timesVanishing 17 2 (zBlinder 1 nine))); should = numbers (8 ∷ 9 ∷ 2 ∷ 8 ∷ 7 ∷ []) }
+    ∷ record { what = "blinded: a at the rows' points"; is = numbers (evaluation 17 2 (blindedWire 0)); should = numbers (2 ∷ 6 ∷ []) }
+    ∷ record { what = "blinded: z at the rows' points"; is = numbers (evaluation 17 2 zBlinded); should = numbers (1 ∷ 14 ∷ []) }
+    ∷ record { what = "selectors and wired tags at 2"; is = numbers (tab (λ s. in17 (pre s)) 8); should = numbers (8 ∷ 8 ∷ 16 ∷ 10 ∷ 0 ∷ 3 ∷ 0 ∷ 3 ∷ []) }
+    ∷ record { what = "blinded: five values"; is = numbers (fiveOf blindedWire zBlinded); should = numbers (12 ∷ 6 ∷ 0 ∷ 9 ∷ 7 ∷ []) }
+    ∷ record { what = "blinded: gate at 2"; is = number (in17 (gatePart 17 pre blindedWire x)); should = number 14 }
+    ∷ record { what = "blinded: factors of N at 2, and N"; is = numbers (tab (λ c. in17 (addP (blindedWire c) (1 ∷ multiplier 17 c ∷ []))) 3 ++ (in17 (polyN 17 blindedWire 1 1) ∷ [])); should = numbers (15 ∷ 13 ∷ 2 ∷ 16 ∷ []) }
+    ∷ record { what = "blinded: factors of D at 2, and D"; is = numbers (tab (λ c. in17 (addP (addP (blindedWire c) (pre (5 + c))) (1 ∷ []))) 3 ++ (in17 (polyD pre blindedWire 1 1) ∷ [])); should = numbers (16 ∷ 7 ∷ 4 ∷ 6 ∷ []) }
+    ∷ record { what = "blinded: step at 2"; is = number (in17 (stepPart 17 2 pre blindedWire zBlinded 1 1)); should = number 0 }
+    ∷ record { what = "blinded: L at 2, and start"; is = numbers (in17 (polyL 17 2) ∷ in17 (startPart 17 2 zBlinded) ∷ []); should = numbers (10 ∷ 12 ∷ []) }
+    ∷ record { what = "blinded: F(2) and t(2)"; is = numbers (in17 (polyF 17 2 pre blindedWire x zBlinded 1 1 2) ∷ in17 tBlinded ∷ []); should = numbers (11 ∷ 15 ∷ []) }
+    ∷ record { what = "X^2 - 1 at 2 and at -2"; is = numbers (in17 (16 ∷ 0 ∷ 1 ∷ []) ∷ eval (16 ∷ 0 ∷ 1 ∷ []) (root 17 2 * 2) % 17 ∷ []); should = numbers (3 ∷ 3 ∷ []) }
+    ∷ record { what = "b1 X + b2 at 2, for 2 and 3 and for 3 and 2 in row 0"; is = numbers (in17 (wireBlinder 1 nine 0) ∷ in17 (wireBlinder 1 otherNine 0) ∷ []); should = numbers (4 ∷ 12 ∷ []) }
+    ∷ record { what = "b7 X^2 + b8 X + b9 at 2 and at -2"; is = numbers (in17 (zBlinder 1 nine) ∷ eval (zBlinder 1 nine) (root 17 2 * 2) % 17 ∷ []); should = numbers (2 ∷ 4 ∷ []) }
+    ∷ record { what = "blinded otherwise: z of 3 and 2 in row 0"; is = perhaps (zOf 1 17 2 circuit swapped otherNine 1 1); should = perhaps (some zBlinded) }
+    ∷ record { what = "blinded otherwise: five values of 3 and 2 in row 0"; is = numbers (fiveOf (wiresOf 1 17 2 swapped otherNine) zBlinded); should = numbers (12 ∷ 6 ∷ 0 ∷ 9 ∷ 7 ∷ []) }
+    ∷ record { what = "17^4"; is = number (17 ^ 4); should = number 83521 }
     ∷ []
 
 pub by-hand : All (λ r. r .is ≡ r .should) table
-unfolding tab gathered occurs different powF first inverse reduced quotientVanishing remainderVanishing generator root point multiplier tag evaluation interpolation strided passed lentBy laidBy byRows permutation rowN rowD runningZ polyN polyD polyL gatePart stepPart startPart polyF quotient laid prepared blinded rowsFrom pointVerdict gate zeroFactor tagged lostGammas polynomialOf evaluationsOf mixtureOf
-by-hand = refl & refl & refl & refl & refl & refl & refl & refl & refl & refl & refl & refl & refl & refl & refl & refl & refl & refl & refl & refl & refl & refl & refl & refl & refl & refl & refl & refl & refl & refl & refl & refl & refl & refl & refl & refl & refl & refl & refl & refl & refl & refl & refl & refl & refl & refl & refl & refl & refl & refl & refl & refl & refl & refl & refl & refl & refl & refl & refl & refl & refl & refl & refl & refl & refl & refl & refl & refl & refl & refl & refl & refl & refl & refl & refl & refl & refl & refl & refl & refl & refl & refl & refl & refl & refl & refl & refl & refl & refl & refl & refl & refl & refl & refl & refl & tt
+unfolding tab gathered occurs different powF first inverse reduced quotientVanishing remainderVanishing generator root point multiplier tag evaluation interpolation strided passed lentBy laidBy byRows permutation rowN rowD runningZ polyN polyD polyL gatePart stepPart startPart polyF quotient laid prepared blinded rowsFrom pointVerdict gate brokenCopy zeroFactor tagged lostGammas polynomialOf evaluationsOf mixtureOf
+by-hand = refl & refl & refl & refl & refl & refl & refl & refl & refl & refl & refl & refl & refl & refl & refl & refl & refl & refl & refl & refl & refl & refl & refl & refl & refl & refl & refl & refl & refl & refl & refl & refl & refl & refl & refl & refl & refl & refl & refl & refl & refl & refl & refl & refl & refl & refl & refl & refl & refl & refl & refl & refl & refl & refl & refl & refl & refl & refl & refl & refl & refl & refl & refl & refl & refl & refl & refl & refl & refl & refl & refl & refl & refl & refl & refl & refl & refl & refl & refl & refl & refl & refl & refl & refl & refl & refl & refl & refl & refl & refl & refl & refl & refl & refl & refl & refl & refl & refl & refl & refl & refl & refl & refl & refl & refl & refl & refl & refl & refl & refl & refl & refl & refl & refl & refl & refl & refl & refl & refl & refl & tt
