@@ -11,7 +11,7 @@ use Rattle.prover.proofs.lay_front.Statement.{statement}
 use Rattle.prover.proofs.lay_front.Tie as tie
 
 abbrev start : tie.After-t-start → tie.Start
-start c = c .before .before .before .before .before .before
+start c = c .before .before .before .before .before .before .before
 
 -- the array of powers has room for n words, and the transcript for a, b, c and z
 powers-fit : (c : tie.After-domain-points) → start (c .before) .args .n ≤ length (c .domain-points .result)
@@ -60,6 +60,7 @@ lay-rows-requires c κs =
           elements = s .pre .elements;
         },
         s .pre .no-zero,
+        s .pre .blinding,
       ),
       (length-take-le _ _ (front-fit (c .before .before .before .before .before .before)) ∙ c .before .before .before .before .before .before .t-start .ensures, length-take-le _ _ (spare-fits (s .pre))),
     )

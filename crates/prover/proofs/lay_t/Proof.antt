@@ -23,8 +23,8 @@ abbrev start : tie.After-f-length → tie.Start
 start c = c .before .before .before .before .before .before .before .before
 
 -- F is in the scratch, and a, b, c and z in the transcript
-scratch-fit : (c : tie.After-fill-f) → c .before .before .before .f-length .result ≤ length (c .fill-f .last .1 .1 .1 .1 .1 .1 .1 .0)
-scratch-fit c = omega (arith, c .fill-f .kept .1 .1 .1 .1 .1 .1 .1 .0, c .before .before .before .f-length .ensures, filling-fits (start (c .before .before .before) .pre .0))
+scratch-fit : (c : tie.After-fill-f) → c .before .before .before .f-length .result ≤ length (c .fill-f .last .1 .1 .1 .1 .1 .1 .1 .1 .0)
+scratch-fit c = omega (arith, c .fill-f .kept .1 .1 .1 .1 .1 .1 .1 .1 .0, c .before .before .before .f-length .ensures, filling-fits (start (c .before .before .before) .pre .0))
 
 laid-fit : (c : tie.After-f-length) → c .before .t-start .result ≤ length (start c .args .transcript .now)
 laid-fit c = omega (arith, c .before .t-start .ensures, laid-fits (start c .pre .0) (start c .args .transcript .now) (start c .pre .1))
@@ -64,7 +64,7 @@ part-divide-end c = search needs
 
 -- the part behind a, b, c and z has the length of t
 rest : (c : tie.After-f-length)
-    → length (take (length (start c .args .transcript .now) - c .before .t-start .result) (drop (c .before .t-start .result) (start c .args .transcript .now))) ≡ quotientLength (start c .args .n)
+    → length (take (length (start c .args .transcript .now) - c .before .t-start .result) (drop (c .before .t-start .result) (start c .args .transcript .now))) ≡ quotientLength (start c .args .e) (start c .args .n)
 rest c =
     let T = start c .args .transcript .now in
     ap (λ (i : ℕ). length (take (length T - i) (drop i T))) (c .before .t-start .ensures) ∙ rest-long (start c .pre .0) T (start c .pre .1)
@@ -94,22 +94,22 @@ returns c =
     let d = a .challenges .now in
     let t = c .before .before .divide in
     let filled = c .before .before .before .before .before .before .before .fill-f in
-    let f = take (k .f-length .result) (filled .last .1 .1 .1 .1 .1 .1 .1 .0) in
+    let f = take (k .f-length .result) (filled .last .1 .1 .1 .1 .1 .1 .1 .1 .0) in
     let least = rows-power _ _ (s .pre .0 .admissible .rows) .least in
-    let front : take (k .before .t-start .result) T ≡ take (tStart (a .n)) T = ap (λ (i : ℕ). take i T) (k .before .t-start .ensures) in
+    let front : take (k .before .t-start .result) T ≡ take (tStart (a .e) (a .n)) T = ap (λ (i : ℕ). take i T) (k .before .t-start .ensures) in
     rest-put (k .before .t-start .result) T (t .last .1 .1 .1 .0)
     ∙ ap₂ (λ (i l : List ℕ). i ++ l) front
     (t .ensures
     ∙ ap (λ (m : ℕ). reduced (a .p) m (quotientVanishing (a .n) m f)) (rest k)
-    ∙ quotient-sees (a .p) (a .n) f _ (omega (arith, least))
-    (length-pointF (a .p) (a .n) (prepared (a .p) (a .n) (lentConstraints (a .n) (a .selectors .now) (a .labels .now))) (lentPublic (a .publics .now)) (take (tStart (a .n)) T)
+    ∙ quotient-sees (a .e) (a .p) (a .n) f _ (omega (arith, least))
+    (length-pointF (a .e) (a .p) (a .n) (prepared (a .p) (a .n) (lentConstraints (a .n) (a .selectors .now) (a .labels .now))) (lentPublic (a .publics .now)) (take (tStart (a .e) (a .n)) T)
     (getD d 0 0)
     (getD d 1 0)
     (getD d 2 0)
     least)
-    (ap (λ (i : ℕ). take i (filled .last .1 .1 .1 .1 .1 .1 .1 .0)) (k .f-length .ensures)
+    (ap (λ (i : ℕ). take i (filled .last .1 .1 .1 .1 .1 .1 .1 .1 .0)) (k .f-length .ensures)
     ∙ filled .ensures
-    ∙ ap (λ (l : List ℕ). reduced (a .p) (fLength (a .n)) (lentF (a .p) (a .n) (a .selectors .now) (a .labels .now) (a .publics .now) l d)) front))
+    ∙ ap (λ (l : List ℕ). reduced (a .p) (fLength (a .e) (a .n)) (lentF (a .e) (a .p) (a .n) (a .selectors .now) (a .labels .now) (a .publics .now) l d)) front))
 
 pub lay-t-spec : {M : Type 1} → statement M
 lay-t-spec =
