@@ -120,11 +120,11 @@ module _ (s selectors labels witness publics drawn : List ℕ) (r : SheetAnswer)
     l-read = R .l-is ∙ rw accepted
 
     -- how many lines of blinding numbers there are
-    abbrev e : ℕ
-    e = cond (r .blinded) 1 0
+    abbrev lines : ℕ
+    lines = cond (r .blinded) 1 0
 
-    e-read : e ≡ sheetBlinded s (sheetN s) (sheetL s)
-    e-read = blinded-lines s (sheetN s) (sheetL s) e (r .blinded) (R .blinded-is ∙ rw accepted) refl
+    lines-read : lines ≡ sheetBlinded s (sheetN s) (sheetL s)
+    lines-read = blinded-lines s (sheetN s) (sheetL s) lines (r .blinded) (R .blinded-is ∙ rw accepted) refl
 
     drawn-read : drawn' ≡ drawnOn s (sheetN s) (sheetL s)
     drawn-read = R .challenges-laid ∙ rw accepted
@@ -132,9 +132,9 @@ module _ (s selectors labels witness publics drawn : List ℕ) (r : SheetAnswer)
     challenges-read : take challengeCount drawn' ≡ tab (onChallenges s (sheetN s) (sheetL s)) challengeCount
     challenges-read = ap (take challengeCount) drawn-read ∙ take-at (tab (onChallenges s (sheetN s) (sheetL s)) challengeCount) _ challengeCount (length-tab (onChallenges s (sheetN s) (sheetL s)) challengeCount)
 
-    blinders-read : take (blinderCount * e) (drop challengeCount drawn') ≡ blindersOn s (sheetN s) (sheetL s)
+    blinders-read : take (blinderCount * lines) (drop challengeCount drawn') ≡ blindersOn s (sheetN s) (sheetL s)
     blinders-read =
-        ap₂ (λ (k : ℕ) (d : List ℕ). take (blinderCount * k) (drop challengeCount d)) e-read drawn-read
+        ap₂ (λ (k : ℕ) (d : List ℕ). take (blinderCount * k) (drop challengeCount d)) lines-read drawn-read
         ∙ ap (take (blinderCount * sheetBlinded s (sheetN s) (sheetL s)))
         (drop-at (tab (onChallenges s (sheetN s) (sheetL s)) challengeCount) _ challengeCount (length-tab (onChallenges s (sheetN s) (sheetL s)) challengeCount))
         ∙ take-padded blinderCount (onBlinders s (sheetN s) (sheetL s)) (blinderCount * sheetBlinded s (sheetN s) (sheetL s))
@@ -148,7 +148,7 @@ module _ (s selectors labels witness publics drawn : List ℕ) (r : SheetAnswer)
     pub sheet-workable : (text : List ℕ) → length text ≡ textLength → Workable (cond (r .blinded) 1 0) (r .p) (r .n) (take challengeCount drawn') (take (blinderCount * cond (r .blinded) 1 0) (drop challengeCount drawn')) text
     sheet-workable text t =
         record {
-          blinded = omega (arith, e-read, blinded-most s (sheetN s) (sheetL s));
+          blinded = omega (arith, lines-read, blinded-most s (sheetN s) (sheetL s));
           unblinded = λ none. ap (λ (k : ℕ). take (blinderCount * k) (drop challengeCount drawn')) none;
           some = omega (arith, n-read, rows-power (sheetP s) (sheetN s) (right .admissible .rows) .least);
           few = rows-few;
@@ -175,7 +175,7 @@ module _ (s selectors labels witness publics drawn : List ℕ) (r : SheetAnswer)
           publics-read,
           challenges-read,
           blinders-read,
-          e-read,
+          lines-read,
           take-padded (selectorsLength sheetRows) (onSelectors s (sheetN s) (sheetL s)) (selectorsLength (sheetN s)),
           take-padded (labelsLength sheetRows) (onLabels s (sheetN s) (sheetL s)) (labelsLength (sheetN s)),
           take-padded (witnessLength sheetRows) (onWitness s (sheetN s) (sheetL s)) (witnessLength (sheetN s)),

@@ -146,7 +146,17 @@ fn print_checked(
     ensures { λ r. ⌜ Puts 0 (checkedText e p n (now (selectors .entry)) (now (labels .entry)) (now (publics .entry)) (now (transcript .entry)) (now (challenges .entry))) (now (text .entry)) r (now (text .exit)) ⌝ }
 {
     let m = n as usize;
-    let verdict = judge(e, p, n, l, selectors, labels, publics, transcript, challenges);
+    let verdict = judge(
+        e,
+        p,
+        n,
+        l,
+        selectors,
+        labels,
+        publics,
+        transcript,
+        challenges,
+    );
     let next = put_transcript(e, m, transcript, text);
     put_judged(verdict, text, next)
 }

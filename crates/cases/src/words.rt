@@ -61,7 +61,13 @@ pub fn run(s: &[u8]) {
     let mut x = laid(i);
     let mut y = laid(j);
     let mut z = laid(k);
-    make(s, lent(&mut x, i), lent(&mut y, j), lent(&mut z, k), &mut answer);
+    make(
+        s,
+        lent(&mut x, i),
+        lent(&mut y, j),
+        lent(&mut z, k),
+        &mut answer,
+    );
     print::answer(line(s, 0), &answer);
     look(i, false, &x);
     look(j, false, &y);

@@ -1,5 +1,5 @@
 -- `archive::print_current` meets its contract: what is read is printed, or the refusal is. Assumes nothing.
-use mathlib.Core.Path.{_≡_, subst}
+use mathlib.Core.Path.{_≡_, sym, ap, subst, _∙_}
 use mathlib.Core.Logic.{_≢_}
 use mathlib.Core.Bool.{cond}
 use mathlib.Core.List.{List}
@@ -85,6 +85,9 @@ slice-aggregate-read-5 c = search needs
 read-requires : tie.Need-read-requires
 read-requires c κs = search needs
 
+blinder-lines-requires : tie.Need-blinder-lines-requires
+blinder-lines-requires c κs = search needs
+
 slice-aggregate-print-read : tie.Need-slice-aggregate-print-read
 slice-aggregate-print-read c = search needs
 
@@ -102,12 +105,18 @@ slice-aggregate-print-read-5 c = search needs
 
 print-read-requires : tie.Need-print-read-requires
 print-read-requires c κs =
-    let d = c .before .before .before .before .before .before .before .before .before .before .before .before .before in
-    let e = c .before .before .before .before .before .before .if1 .taken in
+    let d = c .before .before .before .before .before .before .before .before .before .before .before .before .before .before in
+    let e = c .before .before .before .before .before .before .before .if1 .taken in
     let small = few d e in
     let A = arrays d in
     let k = d .read .kept in (
-      workable d e,
+      (
+        subst
+            (λ (m : ℕ). Workable m (d .read .result .p) (d .read .result .n) (take challengeCount (d .read .last .1 .1 .1 .1 .1 .0)) (take (blinderCount * m) (drop challengeCount (d .read .last .1 .1 .1 .1 .1 .0))) (start d .args .text .now))
+            (sym (c .before .before .before .before .before .before .blinder-lines .ensures))
+            (workable d e),
+        k .1 .1 .1 .1 .1 .0 ∙ sym (A .drawn-long),
+      ),
       (
         omega (arith, small .0, A .selectors-long, k .1 .0),
         omega (arith, small .0, A .labels-long, k .1 .1 .0),
@@ -121,9 +130,16 @@ same-length c = search needs
 
 returns : tie.Need-returns
 returns c =
-    let d = c .before .before .before .before .before .before .before .before .before .before .before .before .before .before .before .before in
+    let d = c .before .before .before .before .before .before .before .before .before .before .before .before .before .before .before .before .before in
+    let r = d .read .result in
     let t = c .before .before .print-read in
-    subst (λ (b : List ℕ). Puts 0 b (start d .args .text .now) (t .result) (t .last .1 .1 .1 .1 .1 .1 .1 .1 .0)) (text-read d (c .before .before .before .before .before .before .before .before .before .if1 .taken)) (t .ensures)
+    let l = c .before .before .before .before .before .before .before .before .before .blinder-lines in
+    subst (λ (b : List ℕ). Puts 0 b (start d .args .text .now) (t .result) (t .last .1 .1 .1 .1 .1 .1 .1 .1 .1 .0))
+    (ap
+    (λ (m : ℕ). workText m (r .p) (r .n) (r .l) (take (selectorsLength (r .n)) (d .read .last .1 .0)) (take (labelsLength (r .n)) (d .read .last .1 .1 .0)) (take (witnessLength (r .n)) (d .read .last .1 .1 .1 .0)) (take (r .l) (d .read .last .1 .1 .1 .1 .0)) (take challengeCount (d .read .last .1 .1 .1 .1 .1 .0)) (take (blinderCount * m) (drop challengeCount (d .read .last .1 .1 .1 .1 .1 .0))))
+    (l .ensures)
+    ∙ text-read d (c .before .before .before .before .before .before .before .before .before .before .if1 .taken))
+    (t .ensures)
 
 put-refused-requires : tie.Need-put-refused-requires
 put-refused-requires c κs = search needs
@@ -152,6 +168,7 @@ print-current-spec =
     slice-aggregate-read-4
     slice-aggregate-read-5
     read-requires
+    blinder-lines-requires
     slice-aggregate-print-read
     slice-aggregate-print-read-2
     slice-aggregate-print-read-3
