@@ -13,7 +13,8 @@
 -- rowWords r            number, detail, the word of the verdict and its row
 -- judgedWord v          the word of a point verdict: 0 none, 1 accept, 2 reject
 -- pointWords r          number, detail and the word of the verdict
--- sheetWords r          number, detail, p, n and l
+-- saidWord b            1 for yes, 0 for no
+-- sheetWords r          number, detail, p, n, l and whether there was a line of blinding numbers
 -- countWords r k        number, detail and a count or a length
 -- countedWords r        with the count of lost gammas
 -- depositedWords r      with the length of the text
@@ -23,7 +24,7 @@
 -- Assumes nothing.
 use mathlib.Core.Path.{_≡_}
 use mathlib.Core.List.{List, [], _∷_}
-use mathlib.Core.Bool.{true}
+use mathlib.Core.Bool.{Bool, true, cond}
 use Prim.Native.Nat.{ℕ, _≤_}
 use native.Mathlib.Omega.{arith}
 use Rattle.field.specs.Fields.{isField}
@@ -96,8 +97,11 @@ judgedWord judged.Reject = 2
 abbrev pub pointWords : PointAnswer → List ℕ
 pointWords r = r .answer .number ∷ r .answer .detail ∷ judgedWord (r .verdict) ∷ []
 
+abbrev pub saidWord : Bool → ℕ
+saidWord b = cond b 1 0
+
 abbrev pub sheetWords : SheetAnswer → List ℕ
-sheetWords r = r .answer .number ∷ r .answer .detail ∷ r .p ∷ r .n ∷ r .l ∷ []
+sheetWords r = r .answer .number ∷ r .answer .detail ∷ r .p ∷ r .n ∷ r .l ∷ saidWord (r .blinded) ∷ []
 
 abbrev pub countWords : Answer → ℕ → List ℕ
 countWords r k = r .number ∷ r .detail ∷ k ∷ []

@@ -13,12 +13,13 @@
 //   guppyspoon_check_point     0 none, 1 accept, 2 reject
 //   guppyspoon_check_opening   0 none, 1 accept, 2 reject
 //   guppyspoon_lost_gammas     how many gammas are lost
-//   guppyspoon_read            p, n and l
+//   guppyspoon_read            p, n, l, and 1 or 0: whether the sheet has a line of blinding numbers
 //   guppyspoon_deposit         the number of bytes of the text
 //   guppyspoon_join            the number of bytes of the joined sheet
 //
 // The answer may have any length. The call is made in any case: of its words as many are written as there is room for, and what stands behind
 // them is left as it was.
+ghost use mathlib.Core.List.{[]};
 ghost use Rattle.algebra.specs.Polynomial.{coef};
 ghost use Rattle.field.specs.Reasons.{Inverts};
 ghost use Rattle.transform.specs.Transform.{evaluation, interpolation, Transforms};
@@ -225,7 +226,7 @@ pub extern "C" fn guppyspoon_prove(
     scratch: &mut [u32],
     answer: &mut [u32],
 )
-    ensures { λ _. ⌜ Handed answerWords (λ r. Proves p n l (now (selectors .entry)) (now (labels .entry)) (now (witness .entry)) (now (publics .entry)) (now (transcript .entry)) (now (challenges .entry)) (now (scratch .entry)) r (now (transcript .exit)) (now (scratch .exit))) (now (answer .entry)) (now (answer .exit)) ⌝ }
+    ensures { λ _. ⌜ Handed answerWords (λ r. Proves 0 p n l (now (selectors .entry)) (now (labels .entry)) (now (witness .entry)) (now (publics .entry)) (now (transcript .entry)) (now (challenges .entry)) [] (now (scratch .entry)) r (now (transcript .exit)) (now (scratch .exit))) (now (answer .entry)) (now (answer .exit)) ⌝ }
 {
     let r = prover::prove(
         p,
@@ -237,6 +238,40 @@ pub extern "C" fn guppyspoon_prove(
         publics,
         transcript,
         challenges,
+        scratch,
+    );
+    words::put_answer(r, answer);
+}
+
+// `prover::prove_blinded`: the same, blinded by nine numbers.
+#[no_mangle]
+pub extern "C" fn guppyspoon_prove_blinded(
+    p: u32,
+    n: u32,
+    l: u32,
+    selectors: &[u32],
+    labels: &[u32],
+    witness: &[u32],
+    publics: &[u32],
+    transcript: &mut [u32],
+    challenges: &[u32],
+    blinders: &[u32],
+    scratch: &mut [u32],
+    answer: &mut [u32],
+)
+    ensures { λ _. ⌜ Handed answerWords (λ r. Proves 1 p n l (now (selectors .entry)) (now (labels .entry)) (now (witness .entry)) (now (publics .entry)) (now (transcript .entry)) (now (challenges .entry)) (now (blinders .entry)) (now (scratch .entry)) r (now (transcript .exit)) (now (scratch .exit))) (now (answer .entry)) (now (answer .exit)) ⌝ }
+{
+    let r = prover::prove_blinded(
+        p,
+        n,
+        l,
+        selectors,
+        labels,
+        witness,
+        publics,
+        transcript,
+        challenges,
+        blinders,
         scratch,
     );
     words::put_answer(r, answer);

@@ -1,7 +1,7 @@
 // Answers as words at the start of a lent buffer. A word for which the buffer has no room is left out.
 ghost use mathlib.Core.Path.{_≡_};
 ghost use lib.ListN.{set};
-ghost use Rattle.exports.specs.Answers.{over, answerWords, isThere, inverseWord, invertedWords, identityWord, verdictWord, verdictRow, rowWords, judgedWord, pointWords, sheetWords, countWords};
+ghost use Rattle.exports.specs.Answers.{over, answerWords, isThere, inverseWord, invertedWords, identityWord, verdictWord, verdictRow, rowWords, judgedWord, pointWords, saidWord, sheetWords, countWords};
 use field::Answer;
 use field::InverseOf;
 use field::Inverted;
@@ -128,7 +128,17 @@ pub fn put_point(r: PointAnswer, buffer: &mut [u32])
     put(buffer, 2, judged_word(v));
 }
 
-// The number, the detail, p, n and l.
+// 1 for yes, 0 for no.
+fn said_word(b: bool) -> u32
+    ensures { λ r. ⌜ r ≡ saidWord b ⌝ }
+{
+    if b {
+        return 1;
+    }
+    0
+}
+
+// The number, the detail, p, n, l and whether there was a line of blinding numbers.
 pub fn put_sheet(r: SheetAnswer, buffer: &mut [u32])
     ensures { λ _. ⌜ now (buffer .exit) ≡ over (sheetWords r) (now (buffer .entry)) ⌝ }
 {
@@ -137,6 +147,7 @@ pub fn put_sheet(r: SheetAnswer, buffer: &mut [u32])
     put(buffer, 2, r.p);
     put(buffer, 3, r.n);
     put(buffer, 4, r.l);
+    put(buffer, 5, said_word(r.blinded));
 }
 
 // The number, the detail and a count, or the length of what was written.
