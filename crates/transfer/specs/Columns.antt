@@ -1,9 +1,10 @@
--- What the calls promised as long as a witness was lent column after column, before request 8 of document 02: the promises of today, by the layout of then. The
--- theorem (Theorem) compares them with what the calls promise now; but for the worked cases, which check them, nothing else rests on these definitions.
+-- What the calls promised as long as a witness was lent column after column, before request 8 of document 02: the promises of today, by the layout of then. What
+-- came later, blinding among it (request 9), is promised by that layout too. The theorem (Theorem) compares them with what the calls promise now; but for the
+-- worked cases, which check them, nothing else rests on these definitions.
 --
 -- byColumns               the layout of then: the wire value of position k stands at place k
--- ChecksRowsByColumns, ProvesByColumns, LosesGammasByColumns   the promises of `check_rows`, `prove` and `lost_gammas`, lent such a witness; their lists of
---                         reasons are those of today, of the numbers as they were lent
+-- ChecksRowsByColumns, ProvesByColumns e, LosesGammasByColumns   the promises of `check_rows`, of `prove` (e is 0) and `prove_blinded` (e is 1), and of `lost_gammas`,
+--                         lent such a witness; their lists of reasons are those of today, of the numbers as they were lent
 -- columnsRead s n l       the witness that reading the sheet s laid
 -- ReadsByColumns, DepositsByColumns, JoinsByColumns   the promises of `read`, `deposit` and `join`, the elements of 7 being counted as they were lent
 -- AsBefore a b            two answers have one number, and one detail unless the number is 7
@@ -39,7 +40,8 @@ byColumns = record { place = λ n k. k; positionAt = λ n j. j }
 abbrev pub ChecksRowsByColumns : (p n l : ℕ) (selectors labels witness publics z challenges : List ℕ) (r : RowAnswer) → Type 0
 ChecksRowsByColumns = ChecksRowsWith byColumns
 
-abbrev pub ProvesByColumns : (p n l : ℕ) (selectors labels witness publics transcript challenges scratch : List ℕ) (r : Answer) (transcript' scratch' : List ℕ) → Type 0
+abbrev pub ProvesByColumns : (e p n l : ℕ) (selectors labels witness publics transcript challenges blinders scratch : List ℕ) (r : Answer) (transcript' scratch' : List ℕ)
+    → Type 0
 ProvesByColumns = ProvesWith byColumns
 
 abbrev pub LosesGammasByColumns : (p n : ℕ) (witness challenges : List ℕ) (r : Counted) → Type 0

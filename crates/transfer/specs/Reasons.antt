@@ -2,7 +2,7 @@
 --
 -- same-values          a transferred witness has the wire values that it had
 -- same-long            and as many numbers
--- prove-as-before      the answer by all reasons of `prove`
+-- prove-as-before      the answer by all reasons of `prove` and of `prove_blinded`
 -- read-transferred     what is read from a sheet is what was read, transferred
 -- numbers-as-before    the answer by a sheet's numbers, with reasons before and behind them
 --
@@ -10,7 +10,7 @@
 use mathlib.Core.Path.{_≡_, sym, ap, ap₂, _∙_}
 use mathlib.Core.List.{List, [], _∷_, _++_}
 use Prim.Native.Nat.{ℕ, _*_, _<_}
-use lib.ListN.{length, getD}
+use lib.ListN.{length, getD, replicate}
 use Rattle.algebra.specs.Lists.{tab}
 use Rattle.algebra.specs.Tables.{length-tab, getD-tab}
 use Rattle.field.specs.Fields.{greatestRows}
@@ -35,7 +35,7 @@ module _ (p n : ℕ) (columns : List ℕ) (long : length columns ≡ witnessLeng
   pub same-long : length (toRows n columns) ≡ length columns
   same-long = rows-long n columns ∙ sym long
 
-  module _ (l : ℕ) (selectors labels publics transcript challenges scratch : List ℕ) where
+  module _ (e l : ℕ) (selectors labels publics transcript challenges blinders scratch : List ℕ) where
     abbrev beta : ℕ
     beta = getD challenges 0 0
 
@@ -45,22 +45,24 @@ module _ (p n : ℕ) (columns : List ℕ) (long : length columns ≡ witnessLeng
     abbrev C : Constraints
     C = lentConstraints n selectors labels
 
-    pub prove-as-before : AsBefore (answerOf (proveReasons p n l selectors labels (toRows n columns) publics transcript challenges scratch)) (answerOf (proveReasonsWith byColumns p n l selectors labels columns publics transcript challenges scratch))
+    pub prove-as-before : AsBefore (answerOf (proveReasons e p n l selectors labels (toRows n columns) publics transcript challenges blinders scratch)) (answerOf (proveReasonsWith byColumns e p n l selectors labels columns publics transcript challenges blinders scratch))
     prove-as-before =
         rw (ap answerOf same-reasons)
-        (as-transferred p n columns long selectors (publics ++ challenges) (before (length columns))
+        (as-transferred p n columns long selectors (publics ++ (challenges ++ blinders)) (before (length columns))
         (circuitReasons n l selectors labels ++ witnessReasons p n C (lentPublic publics) (lentBy byColumns n columns) beta gamma))
       where
         -- the reasons before those of the elements, `m` being the length of the witness; and all of them, `looked` being those that look at it
         before : ℕ → List Reason
         before m =
             badField p ∷ retiredField p ∷ badRows p n (greatestRows p) ∷ badPublics n l
-            ∷ badLengths (length selectors ∷ length labels ∷ m ∷ length publics ∷ length transcript ∷ length challenges ∷ length scratch ∷ []) (proveDue n l) ∷ []
+            ∷ badLengths (length selectors ∷ length labels ∷ m ∷ length publics ∷ length transcript ∷ length challenges ∷ (replicate e (length blinders) ++ (length scratch ∷ [])))
+            (proveDue e n l)
+            ∷ []
 
         all : ℕ → List Reason → List Reason
-        all m looked = before m ++ (badElement p (selectors ++ (toRows n columns ++ (publics ++ challenges))) ∷ (circuitReasons n l selectors labels ++ looked))
+        all m looked = before m ++ (badElement p (selectors ++ (toRows n columns ++ (publics ++ (challenges ++ blinders)))) ∷ (circuitReasons n l selectors labels ++ looked))
 
-        same-reasons : proveReasons p n l selectors labels (toRows n columns) publics transcript challenges scratch
+        same-reasons : proveReasons e p n l selectors labels (toRows n columns) publics transcript challenges blinders scratch
             ≡ all (length columns) (witnessReasons p n C (lentPublic publics) (lentBy byColumns n columns) beta gamma)
         same-reasons =
             ap₂ all same-long (reasons-ext p n (lentWitness n (toRows n columns)) (lentBy byColumns n columns) (same-values n columns) C (lentPublic publics) beta gamma)

@@ -25,14 +25,13 @@ use Rattle.algebra.specs.Lists.{tab}
 use Rattle.algebra.specs.Tables.{length-tab, getD-tab, tab-ext}
 use Rattle.field.specs.declared.Answer.{Answer}
 use Rattle.field.specs.Reasons.{isAccepted, currentOnly}
-use Rattle.transform.specs.Transform.{scratchLength}
 use Rattle.transform.specs.Parts.{laid}
 use Rattle.circuit.specs.Circuit.{Layout, position, lentConstraints, lentPublic, lentBy, laidBy, byRows, lentWitness}
-use Rattle.circuit.specs.Buffers.{witnessLength, transcriptLength}
+use Rattle.circuit.specs.Buffers.{witnessLength, transcriptLength, workLength}
 use Rattle.circuit.specs.Witness.{lent-laid}
 use Rattle.protocol.specs.SameValues.{proved-ext}
 use Rattle.text.specs.Text.{lineOf, refusedText}
-use Rattle.sheet.specs.Sheet.{sheetP, sheetN, sheetL, onPosition, onWitnessWith, firstReasons, lineReasons, newAnswerWith, newAnswer}
+use Rattle.sheet.specs.Sheet.{sheetP, sheetN, sheetL, sheetBlinded, onPosition, onWitnessWith, blindersOn, firstReasons, lineReasons, newAnswerWith, newAnswer}
 use Rattle.sheet.specs.Written.{circuitLine, witnessLineWith, publicLine}
 use Rattle.sheet.specs.LaidLines.{laid-same}
 use Rattle.joining.specs.Joining.{Numbers, sourceRow, fromRow, joinedAt, onSheetWith, joinedNumbersWith, joinedTextWith, joinedText}
@@ -56,34 +55,34 @@ refused-as-before a b s = go (ℕ-discrete (a .number) 7)
     go (yes e) = inr (record { detail = a .detail; is = rw e }, record { detail = b .detail; is = rw (sym (s .number) ∙ e) })
     go (no h) = inl (ap₂ refusedText (s .number) (s .detail h))
 
-module _ (p n l : ℕ) (selectors labels columns publics challenges : List ℕ) (long : length columns ≡ witnessLength n) where
+module _ (e p n l : ℕ) (selectors labels columns publics challenges blinders : List ℕ) (long : length columns ≡ witnessLength n) where
   abbrev now : Answer
-  now = workAnswer p n l selectors labels (toRows n columns) publics challenges
+  now = workAnswer e p n l selectors labels (toRows n columns) publics challenges blinders
 
   abbrev then : Answer
-  then = workAnswerWith byColumns p n l selectors labels columns publics challenges
+  then = workAnswerWith byColumns e p n l selectors labels columns publics challenges blinders
 
   answers : AsBefore now then
   unfolding workAnswerWith
   answers =
-      prove-as-before p n columns long l selectors labels publics (replicate (transcriptLength n) 0) (take 3 challenges) (replicate (scratchLength n) 0)
+      prove-as-before p n columns long e l selectors labels publics (replicate (transcriptLength e n) 0) (take 3 challenges) blinders (replicate (workLength e n) 0)
 
-  transcripts : workTranscript p n l selectors labels (toRows n columns) publics challenges ≡ workTranscriptWith byColumns p n l selectors labels columns publics challenges
+  transcripts : workTranscript e p n l selectors labels (toRows n columns) publics challenges blinders ≡ workTranscriptWith byColumns e p n l selectors labels columns publics challenges blinders
   transcripts =
       ap₂ (λ b o. cond b o none) (accepted-same answers)
-      (proved-ext p n (lentWitness n (toRows n columns)) (lentBy byColumns n columns) (same-values n columns) (lentConstraints n selectors labels) (lentPublic publics) (getD challenges 0 0) (getD challenges 1 0) (getD challenges 2 0))
+      (proved-ext p n (lentWitness n (toRows n columns)) (lentBy byColumns n columns) (same-values n columns) (lentConstraints n selectors labels) (lentPublic publics) e blinders (getD challenges 0 0) (getD challenges 1 0) (getD challenges 2 0))
 
-  pub work-as-before : TextAsBefore (workText p n l selectors labels (toRows n columns) publics challenges) (workTextWith byColumns p n l selectors labels columns publics challenges)
+  pub work-as-before : TextAsBefore (workText e p n l selectors labels (toRows n columns) publics challenges blinders) (workTextWith byColumns e p n l selectors labels columns publics challenges blinders)
   unfolding workTextWith
   work-as-before =
-      subst (λ o. TextAsBefore (print now (workTranscript p n l selectors labels (toRows n columns) publics challenges)) (print then o)) transcripts (go (workTranscript p n l selectors labels (toRows n columns) publics challenges))
+      subst (λ o. TextAsBefore (print now (workTranscript e p n l selectors labels (toRows n columns) publics challenges blinders)) (print then o)) transcripts (go (workTranscript e p n l selectors labels (toRows n columns) publics challenges blinders))
     where
       print : Answer → Option (List ℕ) → List ℕ
       print a o =
           elim o [
             | none ↦ refusedText (a .number) (a .detail)
             | some T ↦
-                provedText p n (lentConstraints n selectors labels) (lentPublic publics) T (getD challenges 0 0) (getD challenges 1 0) (getD challenges 2 0) (getD challenges 3 0)
+                provedText e p n (lentConstraints n selectors labels) (lentPublic publics) T (getD challenges 0 0) (getD challenges 1 0) (getD challenges 2 0) (getD challenges 3 0)
           ]
 
       go : (o : Option (List ℕ)) → TextAsBefore (print now o) (print then o)
@@ -101,7 +100,7 @@ pub text-as-before : (s : List ℕ) → TextAsBefore (depositText s) (depositTex
 unfolding depositTextWith
 text-as-before s =
     whichever (isAccepted (newAnswer s)) (isAccepted (newAnswerWith byColumns s)) (accepted-same answers)
-    (rw (read-transferred s n l) (work-as-before (sheetP s) n l _ _ (columnsRead s n l) _ _ (length-tab (onWitnessWith byColumns s n l) (witnessLength n))))
+    (rw (read-transferred s n l) (work-as-before (sheetBlinded s n l) (sheetP s) n l _ _ (columnsRead s n l) _ _ (blindersOn s n l) (length-tab (onWitnessWith byColumns s n l) (witnessLength n))))
     (refused-as-before (newAnswer s) (newAnswerWith byColumns s) answers)
   where
     n : ℕ

@@ -3,15 +3,17 @@
 -- THE STATEMENTS: a witness of 3n numbers was lent to a call column after column, and is lent to it transferred to rows. The answer is the one that it was,
 -- but for the detail of 7 (AsBefore), and everything else that the call gives is the same
 -- RowsAsBefore r' r                   `check_rows`: the verdict
--- ProofAsBefore r' t' s' r t s        `prove`: every word of the transcript and of the scratch
+-- ProofAsBefore r' t' s' r t s        `prove` and `prove_blinded`: every word of the transcript and of the scratch
 -- CountAsBefore r' r                  `lost_gammas`: the count
 -- A call that reads sheets is given the same ones
--- ReadAsBefore r' .. r ..             `read`: p, n, l and every word of the buffers, but for the witness, which is the one that it was, transferred
+-- ReadAsBefore r' .. r ..             `read`: p, n, l, whether there is a line of blinding numbers, and every word of the buffers, but for the witness, which is the
+--                                     one that it was, transferred
 -- DepositAsBefore r' text' r text     `deposit`: the answer with its detail; and every byte, unless both texts are the line of a refusal with 7, in which the detail is
 --                                     printed
 -- JoinAsBefore r' joined' r joined    `join`: the length, and every byte
 -- THE THEOREM
--- rows-as-before, proof-as-before, count-as-before, read-as-before, deposit-as-before, join-as-before   for each call, whatever it is lent besides
+-- rows-as-before, proof-as-before, count-as-before, read-as-before, deposit-as-before, join-as-before   for each call, whatever it is lent besides; `proof-as-before` is
+--                                     once over e, which is 0 for `prove` and 1 for `prove_blinded`
 --
 -- A call's answer is any that keeps the call's promise: the former one of Columns, and that of today.
 -- Assumes nothing.
@@ -29,9 +31,8 @@ use Rattle.algebra.specs.Lists.{tab}
 use Rattle.algebra.specs.Tables.{length-tab}
 use Rattle.field.specs.declared.Answer.{Answer}
 use Rattle.field.specs.Reasons.{Reason, isAccepted, badLengths, lentReasons, currentOnly}
-use Rattle.transform.specs.Transform.{scratchLength}
 use Rattle.circuit.specs.Circuit.{Constraints, lentConstraints, lentPublic, lentBy, laidBy, lentWitness}
-use Rattle.circuit.specs.Buffers.{witnessLength}
+use Rattle.circuit.specs.Buffers.{witnessLength, workLength}
 use Rattle.circuit.specs.Reasons.{circuitReasons, rowsDue}
 use Rattle.protocol.specs.SameValues.{verdict-ext, proved-ext, lost-ext}
 use Rattle.rowcheck.specs.declared.RowAnswer.{RowAnswer}
@@ -77,6 +78,7 @@ pub record ReadAsBefore (r' : SheetAnswer) (selectors' labels' witness' publics'
   pub p-is : r' .p ≡ r .p
   pub n-is : r' .n ≡ r .n
   pub l-is : r' .l ≡ r .l
+  pub blinded-is : r' .blinded ≡ r .blinded
   pub selectors-laid : selectors' ≡ selectors
   pub labels-laid : labels' ≡ labels
   pub witness-laid : witness' ≡ toRows (r .n) (take (witnessLength (r .n)) witness) ++ drop (witnessLength (r .n)) witness
@@ -129,25 +131,25 @@ module _ (p n : ℕ) (columns : List ℕ) (long : length columns ≡ witnessLeng
             (lentReasons p n l (length selectors ∷ length labels ∷ length columns ∷ length publics ∷ length z ∷ length challenges ∷ []) (rowsDue n l))
             (circuitReasons n l selectors labels))
 
-    pub proof-as-before : (transcript scratch : List ℕ) (r' : Answer) (transcript' scratch' : List ℕ) (r : Answer) (transcript'' scratch'' : List ℕ)
-        → Proves p n l selectors labels (toRows n columns) publics transcript challenges scratch r' transcript' scratch'
-        → ProvesByColumns p n l selectors labels columns publics transcript challenges scratch r transcript'' scratch''
+    pub proof-as-before : (e : ℕ) (transcript blinders scratch : List ℕ) (r' : Answer) (transcript' scratch' : List ℕ) (r : Answer) (transcript'' scratch'' : List ℕ)
+        → Proves e p n l selectors labels (toRows n columns) publics transcript challenges blinders scratch r' transcript' scratch'
+        → ProvesByColumns e p n l selectors labels columns publics transcript challenges blinders scratch r transcript'' scratch''
         → ProofAsBefore r' transcript' scratch' r transcript'' scratch''
-    proof-as-before transcript scratch r' transcript' scratch' r transcript'' scratch'' new old =
+    proof-as-before e transcript blinders scratch r' transcript' scratch' r transcript'' scratch'' new old =
         record {
           answer = answers;
           laid = cc laid;
-          cleared = new .cleared ∙ ap (λ b. cond b (replicate (scratchLength n) 0) scratch) (accepted-same answers) ∙ sym (old .cleared);
+          cleared = new .cleared ∙ ap (λ b. cond b (replicate (workLength e n) 0) scratch) (accepted-same answers) ∙ sym (old .cleared);
         }
       where
         answers : AsBefore r' r
-        answers = rw (new .answer, old .answer) (prove-as-before p n columns long l selectors labels publics transcript challenges scratch)
+        answers = rw (new .answer, old .answer) (prove-as-before p n columns long e l selectors labels publics transcript challenges blinders scratch)
 
         laid : some transcript' ≡ some transcript''
         laid =
             new .lays
             ∙ ap₂ (λ b o. cond b o (some transcript)) (accepted-same answers)
-            (proved-ext p n (lentWitness n rows) (lentBy byColumns n columns) (same-values n columns) C (lentPublic publics) beta gamma (getD challenges 2 0))
+            (proved-ext p n (lentWitness n rows) (lentBy byColumns n columns) (same-values n columns) C (lentPublic publics) e blinders beta gamma (getD challenges 2 0))
             ∙ sym (old .lays)
 
   pub count-as-before : (challenges : List ℕ) (r' r : Counted) → LosesGammas p n (toRows n columns) challenges r' → LosesGammasByColumns p n columns challenges r
@@ -199,6 +201,7 @@ module _ (s selectors labels witness publics challenges : List ℕ) where
         p-is = new .p-is ∙ rw same (sym (old .p-is));
         n-is = new .n-is ∙ rw same (sym (old .n-is));
         l-is = new .l-is ∙ rw same (sym (old .l-is));
+        blinded-is = new .blinded-is ∙ rw same (sym (old .blinded-is));
         selectors-laid = new .selectors-laid ∙ rw same (sym (old .selectors-laid));
         labels-laid = new .labels-laid ∙ rw same (sym (old .labels-laid));
         witness-laid = new .witness-laid ∙ rw same (laid-now (isAccepted (r .answer)) (r .n) witness'' (old .n-is) (old .witness-laid));

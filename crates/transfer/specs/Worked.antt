@@ -20,7 +20,7 @@ use Rattle.circuit.specs.Reasons.{unboundRow}
 use Rattle.circuit.specs.Promises.{anyRows}
 use Rattle.losses.specs.Losses.{lostReasons}
 use Rattle.text.specs.Text.{isDigit, digitsEnd, valueOf, isNumberAt, numberAt, fieldAt, isFieldAt, isLineAt, decimalOf, fieldsText, fieldsOf, refusedText}
-use Rattle.sheet.specs.Sheet.{fieldsDue, lineAt, numberOf, badLine}
+use Rattle.sheet.specs.Sheet.{fieldsDue, lineAt, numberOf, isBlinded, badLine}
 use Rattle.sheet.specs.Worked.{bytes, with}
 use Rattle.joining.specs.Joining.{sourceRow, joinedAt, joinedTextWith}
 use Rattle.joining.specs.Worked.{second, joinedBytes}
@@ -64,7 +64,7 @@ pub record Worked : Type 0 where
   pub written-short : answerOf (transferReasons 4 twelve rows) ≡ record { number = 6; detail = 2 }
 
 pub worked : Worked
-unfolding tab first ones isField isCurrent isRows greatestRows anyRows firstOther firstAbove unboundRow laid lentBy laidBy byRows byColumns isDigit digitsEnd valueOf isNumberAt numberAt fieldAt isFieldAt isLineAt decimalOf fieldsText fieldsOf fieldsDue lineAt numberOf badLine sourceRow joinedAt depositTextWith
+unfolding tab first ones isField isCurrent isRows greatestRows anyRows firstOther firstAbove unboundRow laid lentBy laidBy byRows byColumns isDigit digitsEnd valueOf isNumberAt numberAt fieldAt isFieldAt isLineAt decimalOf fieldsText fieldsOf fieldsDue lineAt numberOf isBlinded badLine sourceRow joinedAt depositTextWith
 worked =
     record {
       to-rows = refl;
