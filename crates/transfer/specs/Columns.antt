@@ -1,6 +1,6 @@
--- What the calls promised as long as a witness was lent column after column, before request 8 of document 02: the promises of today, by the layout of then. What
--- came later, blinding among it (request 9), is promised by that layout too. The theorem (Theorem) compares them with what the calls promise now; but for the
--- worked cases, which check them, nothing else rests on these definitions.
+-- What the calls promised as long as a witness was lent column after column, before request 8 of document 02: the promises of today, by the layout of then; and what
+-- they would have promised by it of blinding, which came later (request 9). The theorem (Theorem) compares them with what the calls promise now; but for the worked
+-- cases, which check them, nothing else rests on these definitions.
 --
 -- byColumns               the layout of then: the wire value of position k stands at place k
 -- ChecksRowsByColumns, ProvesByColumns e, LosesGammasByColumns   the promises of `check_rows`, of `prove` (e is 0) and `prove_blinded` (e is 1), and of `lost_gammas`,

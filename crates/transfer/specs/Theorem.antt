@@ -12,8 +12,8 @@
 --                                     printed
 -- JoinAsBefore r' joined' r joined    `join`: the length, and every byte
 -- THE THEOREM
--- rows-as-before, proof-as-before, count-as-before, read-as-before, deposit-as-before, join-as-before   for each call, whatever it is lent besides; `proof-as-before` is
---                                     once over e, which is 0 for `prove` and 1 for `prove_blinded`
+-- rows-as-before, proof-as-before, count-as-before, read-as-before, deposit-as-before, join-as-before   for each call, whatever it is lent besides, and for every
+--                                     sheet, blinded or not; `proof-as-before` is once over e, which is 0 for `prove` and 1 for `prove_blinded`
 --
 -- A call's answer is any that keeps the call's promise: the former one of Columns, and that of today.
 -- Assumes nothing.

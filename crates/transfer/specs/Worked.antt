@@ -2,14 +2,16 @@
 --
 -- columns, rows    the wire values of the sheet in both layouts
 -- highB            those in columns, with 17 at b of row 0
+-- highNine         the sheet with a line of blinding numbers, of which the last is 99
 -- twelve           the numbers 0 to 11
 -- Worked, worked   what the definitions make of them, and their answers; that they are so
 --
 -- Assumes nothing.
 use mathlib.Core.Path.{_≡_, refl}
-use mathlib.Core.List.{List, [], _∷_}
+use mathlib.Core.List.{List, [], _∷_, _++_}
 use Prim.Native.Nat.{ℕ}
 use lib.Count.{ones}
+use lib.ListN.{take, drop}
 use Rattle.algebra.specs.Lists.{tab}
 use Rattle.algebra.specs.Modular.{first}
 use Rattle.field.specs.Fields.{isField, isCurrent, isRows, greatestRows}
@@ -21,7 +23,7 @@ use Rattle.circuit.specs.Promises.{anyRows}
 use Rattle.losses.specs.Losses.{lostReasons}
 use Rattle.text.specs.Text.{isDigit, digitsEnd, valueOf, isNumberAt, numberAt, fieldAt, isFieldAt, isLineAt, decimalOf, fieldsText, fieldsOf, refusedText}
 use Rattle.sheet.specs.Sheet.{fieldsDue, lineAt, numberOf, isBlinded, badLine}
-use Rattle.sheet.specs.Worked.{bytes, with}
+use Rattle.sheet.specs.Worked.{bytes, with, blinders, blinded}
 use Rattle.joining.specs.Joining.{sourceRow, joinedAt, joinedTextWith}
 use Rattle.joining.specs.Worked.{second, joinedBytes}
 use Rattle.archive.specs.Deposit.{depositTextWith, depositText}
@@ -36,6 +38,9 @@ rows = 2 ∷ 3 ∷ 6 ∷ 6 ∷ 6 ∷ 12 ∷ []
 
 abbrev highB : List ℕ
 highB = 2 ∷ 6 ∷ 17 ∷ 6 ∷ 6 ∷ 12 ∷ []
+
+abbrev highNine : List ℕ
+highNine = bytes ++ (take 16 blinders ++ (57 ∷ drop 16 blinders))
 
 abbrev twelve : List ℕ
 twelve = 0 ∷ 1 ∷ 2 ∷ 3 ∷ 4 ∷ 5 ∷ 6 ∷ 7 ∷ 8 ∷ 9 ∷ 10 ∷ 11 ∷ []
@@ -56,6 +61,11 @@ pub record Worked : Type 0 where
   pub printed-before : depositTextWith byColumns (with 43 (50 ∷ 49 ∷ [])) ≡ refusedText 7 12
   pub printed-now : depositText (with 43 (50 ∷ 49 ∷ [])) ≡ refusedText 7 11
   pub joined-before : joinedTextWith byColumns bytes second ≡ joinedBytes
+  -- with a line of blinding numbers: the same witness is read; a number on that line is counted alike in both layouts, behind the witness; and joining drops the line
+  pub read-blinded : columnsRead blinded 2 0 ≡ columns
+  pub nine-before : depositTextWith byColumns highNine ≡ refusedText 7 28
+  pub nine-now : depositText highNine ≡ refusedText 7 28
+  pub joined-blinded : joinedTextWith byColumns blinded (second ++ blinders) ≡ joinedBytes
   pub taken : answerOf (transferReasons 2 columns rows) ≡ record { number = 0; detail = 0 }
   -- 3 rows, and 1; a buffer too long, and then one too short
   pub three-rows : answerOf (transferReasons 3 columns rows) ≡ record { number = 3; detail = 0 }
@@ -78,6 +88,10 @@ worked =
       printed-before = refl;
       printed-now = refl;
       joined-before = refl;
+      read-blinded = refl;
+      nine-before = refl;
+      nine-now = refl;
+      joined-blinded = refl;
       taken = refl;
       three-rows = refl;
       one-row = refl;
