@@ -8,21 +8,21 @@
 --                  the nine give these five; at zeta = 0 exactly p^5 where the last two agree, and none else
 -- equally-proved   so two witnesses that satisfy a circuit, each with its public inputs, have equally many choices for any five elements
 --
--- `Accepted 1` says that `prove_blinded` takes the buffers: they are lent rightly, the witness satisfies the circuit, and the pair meets no 11. A call's answer r is
--- any that keeps the promise Proves. `Exactly K P`, in FiveValues, says that K things satisfy P.
+-- `Accepted 1` says that `prove_blinded` takes the buffers: they are lent rightly, the witness satisfies the circuit, and the pair meets no 11. Which nine it was lent does
+-- not matter: zeros will do. A call's answer r is any that keeps the promise Proves. `Exactly K P`, in FiveValues, says that K things satisfy P.
 -- Assumes nothing.
 use mathlib.Core.Path.{_≡_, refl, sym, ap, _∙_}
 use mathlib.Core.Logic.{_≢_}
 use mathlib.Core.Bool.{Bool, true, cond}
 use mathlib.Core.List.{List}
-use mathlib.Core.Option.{Option, some}
+use mathlib.Core.Option.{some}
 use Prim.Native.Nat.{ℕ, _^_, _%_, _<_}
 use native.Mathlib.Omega.{arith}
 use lib.ListN.{getD, replicate}
 use Rattle.algebra.specs.Polynomial.{Elements}
 use Rattle.field.specs.declared.Answer.{Answer}
 use Rattle.field.specs.Reasons.{answerOf, isAccepted}
-use Rattle.circuit.specs.Circuit.{Constraints, lentConstraints, lentPublic, lentWitness}
+use Rattle.circuit.specs.Circuit.{lentConstraints, lentPublic, lentWitness}
 use Rattle.circuit.specs.Buffers.{blinderCount, workLength, wirePart, zPart}
 use Rattle.protocol.specs.Protocol.{proveReasons}
 use Rattle.protocol.specs.FiveValues.{FiveAt, LaysFive, FiveValues, EquallyMany, five-of, five-laid, equally-many}
