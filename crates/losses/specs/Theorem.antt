@@ -1,15 +1,16 @@
--- What the count of `lost_gammas` is worth: for a witness that satisfies its circuit it is the number of gammas that meet 11's condition, and that `prove` refuses with 11.
+-- What the count of `lost_gammas` is worth: for a witness that satisfies its circuit it is the number of gammas that meet 11's condition, and that `prove` and `prove_blinded`
+-- refuse with 11.
 --
 -- lost-taken        no reason applies to 3n elements and one beta below p
 -- count-zero        over any of the three primes: lent a witness that satisfies a circuit and a beta, the call's count is exactly the number of gammas with a zero factor of some D(i)
--- count-refused     over a prime that may be proved with: lent the witness of an honest prover and a beta, it is exactly the number of gammas that `prove` refuses with 11, for every alpha
+-- count-refused     over a prime that may be proved with: lent the witness of an honest prover and a beta, it is exactly the number of gammas that `prove`, and `prove_blinded`, refuses with 11, for every alpha
 --
 -- A call's answer is any that keeps the call's promise: LosesGammas, and Proves in RefusedBy11.
 -- Assumes nothing.
 use mathlib.Core.Path.{_≡_, refl, sym, ap, _∙_, subst}
 use mathlib.Core.Bool.{Bool, true, cond}
 use mathlib.Core.List.{List, [], _∷_, _++_}
-use Prim.Native.Nat.{ℕ, _<_}
+use Prim.Native.Nat.{ℕ, _≤_, _<_}
 use native.Mathlib.Omega.{arith}
 use lib.ListN.{length}
 use Rattle.algebra.specs.Lists.{Exactly}
@@ -48,13 +49,14 @@ module _ {p n : ℕ} (A : Admissible p n) {witness : List ℕ} (w : Elements p (
       → Exactly (r .count) (λ gamma. ZeroPair p n C (lentWitness n witness) (beta, gamma))
   count-zero {l} C circuit x satisfies =
       subst (λ (K : ℕ). Exactly K (λ gamma. ZeroPair p n C (lentWitness n witness) (beta, gamma))) (sym count-is)
-      (demand-3 p n l A C circuit .lost-gammas x (lentWitness n witness) satisfies beta hβ)
+      (demand-3 0 p n l A C circuit .lost-gammas x (lentWitness n witness) satisfies beta hβ)
 
-pub count-refused : {p n l : ℕ} {selectors labels witness publics transcript scratch : List ℕ}
-    → Honest p n l selectors labels witness publics transcript scratch
+-- of `prove` where e is 0, and of `prove_blinded` where it is 1
+pub count-refused : {e p n l : ℕ} {selectors labels witness publics transcript blinders scratch : List ℕ} → e ≤ 1
+    → Honest e p n l selectors labels witness publics transcript blinders scratch
     → (beta : ℕ) → beta < p → (r : Counted) → LosesGammas p n witness (beta ∷ []) r
-    → (alpha : ℕ) → alpha < p → Exactly (r .count) (λ gamma. RefusedBy11 p n l selectors labels witness publics transcript scratch alpha (beta, gamma))
-count-refused {p} {n} {l} {selectors} {labels} {witness} {publics} {transcript} {scratch} H beta hβ r L alpha hα =
-    subst (λ (K : ℕ). Exactly K (λ gamma. RefusedBy11 p n l selectors labels witness publics transcript scratch alpha (beta, gamma)))
+    → (alpha : ℕ) → alpha < p → Exactly (r .count) (λ gamma. RefusedBy11 e p n l selectors labels witness publics transcript blinders scratch alpha (beta, gamma))
+count-refused {e} {p} {n} {l} {selectors} {labels} {witness} {publics} {transcript} {blinders} {scratch} small H beta hβ r L alpha hα =
+    subst (λ (K : ℕ). Exactly K (λ gamma. RefusedBy11 e p n l selectors labels witness publics transcript blinders scratch alpha (beta, gamma)))
     (sym (count-is (H .admissible) (H .witness-right) beta hβ r L))
-    (refusals-counted p n l selectors labels witness publics transcript scratch alpha hα H .gammas beta hβ)
+    (refusals-counted e p n l selectors labels witness publics transcript blinders scratch alpha hα small H .gammas beta hβ)
