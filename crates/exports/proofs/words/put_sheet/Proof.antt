@@ -34,7 +34,7 @@ returns c =
     (c .before .before .before .before .before .before .before .before .before .before .before .before .before .before .before .put .ensures)
     (c .before .before .before .before .before .before .before .before .before .before .before .put2 .ensures)
     (c .before .before .before .before .before .before .before .put3 .ensures)
-    (c .before .before .before .before .said-word .ensures)
+    (c .before .before .before .said-word .ensures)
     (c .before .before .put4 .ensures)
 
 pub put-sheet-spec : {M : Type 1} → statement M
