@@ -1,4 +1,5 @@
 // A circuit, what it is filled with, and what was made of it, in one buffer, each part at a place of its own with room for 1,024 rows; and the calls on it.
+ghost use Prim.Native.Nat.{_≤_};
 use super::buffers;
 use super::buffers::Words;
 use super::buffers::first;
@@ -6,6 +7,7 @@ use super::buffers::part;
 use super::print;
 use blocks::words::MARK;
 use blocks::words::progression;
+use blocks::words::put;
 use blocks::words::same;
 use blocks::words::within;
 use field::Answer;
@@ -13,11 +15,12 @@ use pointcheck::Judged;
 use rowcheck::Identity;
 use rowcheck::Verdict;
 
-// The numbers of a call.
+// The numbers of a call, and whether the transcript is blinded.
 pub struct Shape {
     pub p: u32,
     pub n: u32,
     pub l: u32,
+    pub blinded: bool,
 }
 
 // Where the parts stand. The selectors come first.
@@ -31,18 +34,59 @@ pub const PREPARED: usize = 12288;
 
 pub const TRANSCRIPT: usize = 20480;
 
-pub const CHALLENGES: usize = 27648;
+pub const CHALLENGES: usize = 28672;
+
+// The blinding numbers stand straight behind the four challenges, as `read` lays them.
+pub const BLINDERS: usize = 28676;
 
 // The polynomials that are opened: all, the last first.
 const LIST: [u32; 13] = [12, 11, 10, 9, 8, 7, 6, 5, 4, 3, 2, 1, 0];
 
-// The transcript.
-pub fn transcript(s: Shape, words: &Words) -> &[u32] {
-    part(words, TRANSCRIPT, circuit::transcript_length(s.n as usize))
+// The number e: 1 where the transcript is blinded, else 0.
+pub fn blinding(s: Shape) -> usize
+    ensures { λ r. ⌜ r ≤ 1 ⌝ }
+{
+    if s.blinded { 1 } else { 0 }
 }
 
-// What `prove` answers.
+// The length of the transcript.
+pub fn long(s: Shape) -> usize {
+    circuit::transcript_length(blinding(s), s.n as usize)
+}
+
+// The length of the scratch of a call that lays the transcript, or is lent it.
+pub fn work(s: Shape) -> usize {
+    circuit::work_length(blinding(s), s.n as usize)
+}
+
+// The transcript.
+pub fn transcript(s: Shape, words: &Words) -> &[u32] {
+    part(words, TRANSCRIPT, long(s))
+}
+
+// What `prove_blinded` answers.
+fn prove_blinded(s: Shape, words: &Words, transcript: &mut [u32], scratch: &mut [u32]) -> Answer {
+    let n = s.n as usize;
+    prover::prove_blinded(
+        s.p,
+        s.n,
+        s.l,
+        part(words, 0, 5 * n),
+        part(words, LABELS, 3 * n),
+        part(words, WITNESS, 3 * n),
+        part(words, PUBLICS, s.l as usize),
+        first(transcript, long(s)),
+        part(words, CHALLENGES, 3),
+        part(words, BLINDERS, circuit::BLINDER_COUNT),
+        first(scratch, work(s)),
+    )
+}
+
+// What `prove` answers, or `prove_blinded` where the transcript is to be blinded.
 pub fn prove(s: Shape, words: &Words, transcript: &mut [u32], scratch: &mut [u32]) -> Answer {
+    if s.blinded {
+        return prove_blinded(s, words, transcript, scratch);
+    }
     let n = s.n as usize;
     prover::prove(
         s.p,
@@ -52,9 +96,9 @@ pub fn prove(s: Shape, words: &Words, transcript: &mut [u32], scratch: &mut [u32
         part(words, LABELS, 3 * n),
         part(words, WITNESS, 3 * n),
         part(words, PUBLICS, s.l as usize),
-        first(transcript, circuit::transcript_length(n)),
+        first(transcript, long(s)),
         part(words, CHALLENGES, 3),
-        first(scratch, 16 * n),
+        first(scratch, work(s)),
     )
 }
 
@@ -105,7 +149,7 @@ pub fn point(s: Shape, words: &Words) -> Judged {
         part(words, PREPARED, 8 * n),
         transcript(s, words),
         part(words, CHALLENGES, 4),
-        first(&mut scratch, 16 * n),
+        first(&mut scratch, work(s)),
     );
     r.verdict
 }
@@ -159,7 +203,7 @@ pub fn print_points(s: Shape, words: &Words) {
 
 // The line of the transcript with t's first coefficient raised: it is accepted at the rows' points, of which two are tried over the largest prime.
 pub fn change_t(s: Shape, words: &Words) {
-    let end = TRANSCRIPT + 4 * (s.n as usize) + 1;
+    let end = TRANSCRIPT + circuit::t_start(blinding(s), s.n as usize) + 1;
     print::heading(b"first coefficient of t changed", &[s.p, s.n, s.l]);
     print_points(s, &buffers::raised(s.p, *words, end));
     print::text(b"\n");
@@ -184,15 +228,45 @@ fn print_verdict(v: Verdict) {
     }
 }
 
-// The row check's verdict, with z on the rows from its polynomial in the transcript, and the line's end.
-pub fn print_rows(s: Shape, words: &Words) {
+// The remainder of i by n, and 0 for n = 0.
+fn remainder(i: usize, n: usize) -> usize {
+    if n == 0 {
+        return 0;
+    }
+    i % n
+}
+
+// The n coefficients that a polynomial leaves over X^n - 1, which have its values on the rows: those that it has from n on are added in turn to the first.
+fn folded(p: u32, n: usize, f: &[u32]) -> Words {
+    let mut low = buffers::room();
+    let k = within(f, n);
+    buffers::lay(&f[..k], &mut low, 0);
+    for i in k..f.len() {
+        let at = remainder(i, n);
+        let x = buffers::mul_add(p, buffers::at(&low, at), 1, f[i]);
+        put(&mut low, at, x);
+    }
+    low
+}
+
+// z on the rows, at the buffer's start, from its polynomial in the transcript.
+fn z_rows(s: Shape, words: &Words) -> Words {
     let n = s.n as usize;
+    let e = blinding(s);
+    let start = TRANSCRIPT + circuit::z_start(e, n);
+    let low = folded(s.p, n, part(words, start, circuit::z_length(e, n)));
     let mut z = buffers::room();
     let mut scratch = buffers::room();
-    let k = 3 * n;
-    let polynomial = part(words, TRANSCRIPT + k, n);
     let work = first(&mut scratch, 16 * n);
-    transform::evaluate(s.p, s.n, polynomial, first(&mut z, n), work);
+    transform::evaluate(s.p, s.n, part(&low, 0, n), first(&mut z, n), work);
+    z
+}
+
+// The row check's verdict, with z on the rows, and the line's end.
+pub fn print_rows(s: Shape, words: &Words) {
+    let n = s.n as usize;
+    let k = 3 * n;
+    let z = z_rows(s, words);
     let r = rowcheck::check_rows(
         s.p,
         s.n,
@@ -224,13 +298,12 @@ fn print_written(xs: &[u32]) {
 
 // The line of `check_opening` for every polynomial at 3, with the mixing number 5.
 fn check(label: &[u8], s: Shape, words: &Words, evaluations: &[u32], quotient: &[u32]) {
-    let n = s.n as usize;
-    let k = 16 * n;
+    let k = work(s);
     let mut scratch = buffers::marked();
     let r = opening::check_opening(
         s.p,
         s.n,
-        part(words, PREPARED, 8 * n),
+        part(words, PREPARED, 8 * (s.n as usize)),
         transcript(s, words),
         &LIST,
         evaluations,
@@ -250,12 +323,12 @@ fn check(label: &[u8], s: Shape, words: &Words, evaluations: &[u32], quotient: &
 // Every polynomial opened there: the answer, what was written, and the scratch; and that checked, as it is and with the last evaluation raised.
 pub fn every_polynomial(s: Shape, words: &Words) {
     let n = s.n as usize;
-    let k = 16 * n;
+    let k = work(s);
     let mut values = [0u32; 13];
     progression(&mut values, MARK, 1);
     let mut quotient = buffers::marked();
     let mut scratch = buffers::marked();
-    let a = within(&quotient, circuit::opening_length(n));
+    let a = within(&quotient, circuit::opening_length(blinding(s), n));
     let q = &mut quotient[..a];
     let answer = opening::open(
         s.p,
