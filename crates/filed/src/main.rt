@@ -1,12 +1,12 @@
-// Deposits as they were filed: a sheet, and the text that was printed for it. They are read, prepared, checked and opened, and nothing is proved
-// anew, so that a deposit over a retired prime keeps its verdicts. The arguments are names of files, two for each deposit:
+// Deposits as they were filed, blinded or not: a sheet, and the text that was printed for it. They are read, prepared, checked and opened, and nothing is
+// proved anew, so that a deposit over a retired prime keeps its verdicts. The arguments are names of files, two for each deposit:
 //
 //     SHEET TEXT
 //
 // Its lines are: the sheet's name, the answer of `read`, p, n and l, the point verdict and whether it is the one that was filed, at how many zetas
 // the transcript is accepted, `of`, how many were tried, and the row verdict; the same count where the first coefficient of t is changed, and the row
-// verdict where the last content is; `open` and `check_opening` for every polynomial; and what `prove`, `deposit` and `join` answer where the sheet is
-// taken as a new one.
+// verdict where the last content is; `open` and `check_opening` for every polynomial; and what `prove` or `prove_blinded`, `deposit` and `join` answer where
+// the sheet is taken as a new one.
 use blocks::words::put;
 use blocks::words::within;
 use case_tools::buffers;
@@ -65,12 +65,15 @@ fn polynomial(text: &[u8], at: usize, words: &mut [u32], place: usize, count: us
 // The transcript of a text: a, b, c, z and t; where the verdict stands behind them.
 fn transcript(s: Shape, text: &[u8], words: &mut [u32]) -> usize {
     let n = s.n as usize;
-    let b = polynomial(text, 0, words, circuits::TRANSCRIPT, n);
-    let c = polynomial(text, b, words, circuits::TRANSCRIPT + n, n);
-    let z = polynomial(text, c, words, circuits::TRANSCRIPT + 2 * n, n);
-    let t = polynomial(text, z, words, circuits::TRANSCRIPT + 3 * n, n);
-    let long = circuit::quotient_length(n);
-    polynomial(text, t, words, circuits::TRANSCRIPT + 4 * n, long)
+    let e = circuits::blinding(s);
+    let wire = circuit::wire_length(e, n);
+    let z_at = circuits::TRANSCRIPT + circuit::z_start(e, n);
+    let t_at = circuits::TRANSCRIPT + circuit::t_start(e, n);
+    let b = polynomial(text, 0, words, circuits::TRANSCRIPT, wire);
+    let c = polynomial(text, b, words, circuits::TRANSCRIPT + wire, wire);
+    let z = polynomial(text, c, words, circuits::TRANSCRIPT + 2 * wire, wire);
+    let t = polynomial(text, z, words, z_at, circuit::z_length(e, n));
+    polynomial(text, t, words, t_at, circuit::quotient_length(e, n))
 }
 
 // Whether a text has this verdict at a place.
@@ -82,18 +85,29 @@ fn is_due(text: &[u8], at: usize, v: Judged) -> bool {
     }
 }
 
-// The line on the sheet as a new one: what `prove` answers, what `deposit` prints, and what `join` answers where the sheet is joined to itself.
-fn print_new(s: Shape, words: &Words, sheet: &[u8]) {
+// What `deposit` prints for the sheet: a refusal of its prime, the text that was filed, or another one.
+fn print_deposited(sheet: &[u8], filed: &[u8]) {
+    let mut text = archive::text_room();
+    let made = archive::deposit(sheet, &mut text);
+    let is_filed = made.length == filed.len() && says(&text, 0, filed);
+    print::word(b"deposit");
+    if says(&text, 0, b"refused,16,0\n") {
+        print::word(b"refused,16,0");
+    } else {
+        print::either(is_filed, b"as filed", b"another text");
+    }
+}
+
+// The line on the sheet as a new one: what the prover answers, what `deposit` prints, and what `join` answers where the sheet is joined to itself.
+fn print_new(s: Shape, words: &Words, sheet: &[u8], filed: &[u8]) {
     let mut transcript = buffers::room();
     let mut scratch = buffers::room();
-    let mut text = archive::text_room();
     let mut joined = joining::joined_room();
     let proved = circuits::prove(s, words, &mut transcript, &mut scratch);
-    print::text(b"as a new sheet,prove");
+    print::text(b"as a new sheet");
+    print::either(s.blinded, b"prove_blinded", b"prove");
     print::answer(proved);
-    archive::deposit(sheet, &mut text);
-    let is_due = says(&text, 0, b"refused,16,0\n");
-    print::either(is_due, b"deposit,refused,16,0", b"deposit,another text");
+    print_deposited(sheet, filed);
     let made = joining::join(sheet, sheet, &mut joined);
     let answer = made.answer;
     print::word(b"join");
@@ -116,7 +130,7 @@ fn print_lines(s: Shape, words: &Words, sheet: &[u8], text: &[u8], at: usize) {
     if 2 <= s.n {
         circuits::every_polynomial(s, words);
     }
-    print_new(s, words, sheet);
+    print_new(s, words, sheet, text);
 }
 
 // The lines of a deposit, behind the sheet's name.
@@ -126,26 +140,27 @@ fn judge(sheet: &[u8], text: &[u8]) {
     let mut labels = [0u32; 768];
     let mut witness = [0u32; 768];
     let mut publics = [0u32; 256];
-    let mut challenges = [0u32; 4];
+    let mut drawn = [0u32; sheet::DRAWN_COUNT];
     let found = sheet::read(
         sheet,
         &mut selectors,
         &mut labels,
         &mut witness,
         &mut publics,
-        &mut challenges,
+        &mut drawn,
     );
     let answer = found.answer;
     let s = Shape {
         p: found.p,
         n: found.n,
         l: found.l,
+        blinded: found.blinded,
     };
     buffers::lay(&selectors, &mut words, 0);
     buffers::lay(&labels, &mut words, circuits::LABELS);
     buffers::lay(&witness, &mut words, circuits::WITNESS);
     buffers::lay(&publics, &mut words, circuits::PUBLICS);
-    buffers::lay(&challenges, &mut words, circuits::CHALLENGES);
+    buffers::lay(&drawn, &mut words, circuits::CHALLENGES);
     let at = transcript(s, text, &mut words);
     print::answer(answer);
     print_lines(s, &circuits::prepared(s, &words), sheet, text, at);
