@@ -1,7 +1,7 @@
 -- The text of a deposit, and what `deposit` promises.
 --
 -- depositTextWith L s   the text of a sheet: why it is turned down as a new sheet, or else the text of its numbers, the witness being lent by the layout L; its transcript is
---                       blinded where the sheet has a line of blinding numbers
+--                       blinded where the sheet has a line of blinders
 -- depositDue            the lengths due of the sheet, which has whatever length it has, and of the text
 -- depositReasons        of `deposit`
 -- DepositsWith L        refused: the buffer as it came; accepted: the text, and zeros behind it

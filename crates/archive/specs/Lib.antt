@@ -1,5 +1,4 @@
 -- Definitions, then theorems.
-pub mod Rooms
 pub mod Printed
 pub mod Lines
 pub mod Work

@@ -5,6 +5,7 @@
 -- length-five              the lines of the five polynomials
 -- transcript-fits          those of a transcript fit, with room for a verdict
 --
+-- The number e is 1 where the transcript is blinded, and 0 where it is not.
 -- Assumes nothing.
 use mathlib.Core.Path.{_≡_}
 use mathlib.Core.List.{List, [], _∷_, _++_}

@@ -14,7 +14,7 @@
 -- workTextWith L e       provedText of it, or the refusal
 -- workAnswer, workTranscript, workText   the same by the layout of today
 --
--- The number e is 1 where the transcript is blinded, by the sheet's blinding numbers, and 0 where it is not.
+-- The number e is 1 where the transcript is blinded, by the sheet's blinders, and 0 where it is not.
 -- Assumes nothing.
 use mathlib.Core.Bool.{cond}
 use mathlib.Core.List.{List, [], _∷_, _++_}

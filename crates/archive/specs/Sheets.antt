@@ -119,7 +119,7 @@ module _ (s selectors labels witness publics drawn : List ℕ) (r : SheetAnswer)
     l-read : r .l ≡ sheetL s
     l-read = R .l-is ∙ rw accepted
 
-    -- how many lines of blinding numbers there are
+    -- how many lines of blinders there are
     abbrev lines : ℕ
     lines = cond (r .blinded) 1 0
 

@@ -1,21 +1,22 @@
 -- What the functions between the sheet's numbers and the text ask and promise.
 --
--- Lays            what the prover's part promises: its answer, and the transcript where it accepts
--- Judgeable       what the point check has to be lent: elements, and as many as are due
--- Checkable       the same with the circuit in place of the prepared circuit
--- Workable        two rows up to 256, as many challenges as a sheet has, which are elements, blinders where e is 1 only, and a buffer of the text's length
+-- Lays e          what the prover's part promises: its answer, and the transcript where it accepts
+-- Judgeable e     what the point check has to be lent: elements, and as many as are due
+-- Checkable e     the same with the circuit in place of the prepared circuit
+-- Workable e      two rows up to 256, as many challenges as a sheet has, which are elements, no blinders where e is 0, and a buffer of the text's length
 -- judgedFrom      the point verdict on a transcript, for the prepared circuit of lent selectors and labels
--- checkedText     the lines of a transcript, and of the verdict on it
+-- checkedText e   the lines of a transcript, and of the verdict on it
 -- THEOREMS
 -- work-reasons    the prover's reasons see no more of transcript and scratch than their lengths
 -- work-laid       where none of them applies there is a transcript: the text of an accepted call is never that of a refusal
--- lays-of, laid-of   what `prove` promises is Lays; what is laid where the answer's number is 0
+-- lays-of, laid-of   what the prover promises is Lays; what is laid where the answer's number is 0
 -- checkable-of    the transcript that an accepted call laid can be judged
 -- proved-text, refused-text   the text of an accepted call, and of a refused one, is the text of the definitions
 -- prepared-of, judged-of      what `prepare` and `check_point` promise of buffers that they do not turn down
 -- judgeable-of    what can be judged with a circuit can be with the prepared circuit
 -- laid-lines      its lines can be put
 --
+-- The number e is 1 where the transcript is blinded, and 0 where it is not.
 -- Assumes nothing.
 use mathlib.Core.Path.{_≡_, refl, sym, ap, _∙_}
 use mathlib.Core.Logic.{_≢_}

@@ -1,4 +1,4 @@
-// A deposit: sheet bytes in, printed bytes out.
+// A deposit: sheet bytes in, printed bytes out. The number e is 1 where the transcript is blinded, else 0.
 //
 // The public call is `deposit`. It lends the sheet's numbers on from arrays of its own, which have room for 256 rows.
 ghost use mathlib.Core.Path.{_≡_};
@@ -27,7 +27,7 @@ pub struct Deposited {
     pub length: usize,
 }
 
-// The text of a sheet's numbers, which stand at the start of buffers with room for more; the blinding numbers, 9e of them, stand behind the challenges.
+// The text of a sheet's numbers, which stand at the start of buffers with room for more; the blinders, 9e of them, stand behind the challenges.
 fn print_read(
     e: usize,
     p: u32,

@@ -1,10 +1,9 @@
 // Arrays with room for the greatest sheet. What they hold does not matter.
 ghost use mathlib.Core.Path.{_≡_};
 ghost use lib.ListN.{length};
-ghost use Rattle.circuit.specs.Buffers.{selectorsLength, labelsLength, preparedLength};
+ghost use Rattle.circuit.specs.Buffers.{selectorsLength, labelsLength, preparedLength, transcriptLength, workLength};
 ghost use Rattle.sheet.specs.Sheet.{sheetRows, drawnCount};
 ghost use Rattle.archive.specs.Printed.{textLength};
-ghost use Rattle.archive.specs.Rooms.{scratchRoom, transcriptRoom};
 
 // The rows of the greatest sheet.
 const ROWS: usize = sheet::ROWS as usize;
@@ -18,7 +17,7 @@ const POSITIONS: usize = 3 * ROWS;
 // Its prepared circuit.
 const PREPARED: usize = circuit::PREPARED_COUNT * ROWS;
 
-// The scratch and the transcript, those of a blinded transcript too (document 02, request 9).
+// The scratch and the transcript, which may be blinded.
 const SCRATCH: usize = 16 * ROWS + 64;
 
 const TRANSCRIPT: usize = 7 * ROWS + 15;
@@ -47,7 +46,7 @@ pub fn publics_room() -> [u32; ROWS]
     [0; ROWS]
 }
 
-// The challenges, and the blinding numbers behind them.
+// The challenges, and the blinders behind them.
 pub fn drawn_room() -> [u32; sheet::DRAWN_COUNT]
     ensures { λ r. ⌜ drawnCount ≡ length r ⌝ }
 {
@@ -56,7 +55,7 @@ pub fn drawn_room() -> [u32; sheet::DRAWN_COUNT]
 
 // A scratch.
 pub fn scratch_room() -> [u32; SCRATCH]
-    ensures { λ r. ⌜ scratchRoom ≡ length r ⌝ }
+    ensures { λ r. ⌜ workLength 1 sheetRows ≡ length r ⌝ }
 {
     [0; SCRATCH]
 }
@@ -70,7 +69,7 @@ pub fn prepared_room() -> [u32; PREPARED]
 
 // A transcript.
 pub fn transcript_room() -> [u32; TRANSCRIPT]
-    ensures { λ r. ⌜ transcriptRoom ≡ length r ⌝ }
+    ensures { λ r. ⌜ transcriptLength 1 sheetRows ≡ length r ⌝ }
 {
     [0; TRANSCRIPT]
 }

@@ -1,4 +1,5 @@
-// From a sheet's numbers to the text: the prover, preparing and the point check, each with a scratch of its own.
+// From a sheet's numbers to the text: the prover, preparing and the point check, each with a scratch of its own. The number e is 1 where the
+// transcript is blinded, else 0.
 ghost use mathlib.Core.Path.{_≡_};
 ghost use mathlib.Core.List.{[]};
 ghost use Prim.Native.Nat.{_≤_};

@@ -36,7 +36,7 @@ pub const TRANSCRIPT: usize = 20480;
 
 pub const CHALLENGES: usize = 28672;
 
-// The blinding numbers stand straight behind the four challenges, as `read` lays them.
+// The blinders stand straight behind the four challenges, as `read` lays them.
 pub const BLINDERS: usize = 28676;
 
 // The polynomials that are opened: all, the last first.

@@ -1,6 +1,6 @@
 -- The lent buffers: how many numbers each has for n rows, and where the polynomials stand in a prepared circuit and in a transcript.
 -- The number e is 1 where the transcript is blinded (document 02, request 9), and 0 where it is not: every length is one formula for both.
--- (The scratch's length, which the transforms have too, stands in the crate `transform`.)
+-- (The scratch of the transforms and of `prepare` has its length in the crate `transform`; `workLength` is made of it.)
 --
 -- COUNTS AND NUMBERS
 -- selectorCount                         the selectors of a row: qL, qR, qO, qM, qC

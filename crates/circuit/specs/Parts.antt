@@ -3,7 +3,7 @@
 -- transcript-long    a transcript has 7n - 3 + 18e numbers
 -- f-long             F has 4n - 3 + 9e coefficients
 -- opening-long       an opening polynomial has 3n - 4 + 9e coefficients, for n of 2 or more
--- blinded-least      the e of a lent transcript is 0 or 1
+-- blinded-most      the e of a lent transcript is 0 or 1
 -- blinded-of         a transcript of the length that is due for e has this e
 -- prepared-room      each polynomial of a prepared circuit ends within it
 -- wire-room          the wire of a column below 3 ends where z starts, or before
@@ -32,9 +32,9 @@ f-long e n h = omega arith
 pub opening-long : (e n : ℕ) → 2 ≤ n → openingLength e n ≡ 3 * n - 4 + 9 * e
 opening-long e n h = omega arith
 
-pub blinded-least : (n : ℕ) (l : List ℕ) → blindedBy n l ≤ 1
+pub blinded-most : (n : ℕ) (l : List ℕ) → blindedBy n l ≤ 1
 unfolding blindedBy
-blinded-least n l = go (eqb (length l) (transcriptLength 1 n))
+blinded-most n l = go (eqb (length l) (transcriptLength 1 n))
   where
     go : (b : Bool) → cond b 1 0 ≤ 1
     go true = omega arith

@@ -1,5 +1,5 @@
 // How many numbers the lent buffers have for n rows, and where the polynomials start in them. The number e is 1 where the transcript is blinded, else 0. (The
-// scratch's length, which the transforms have too, stands in `transform`.)
+// scratch of the transforms and of `prepare` has its length in `transform`.)
 ghost use mathlib.Core.Path.{_≡_};
 ghost use Prim.Native.Nat.{_<_, _≤_};
 ghost use lib.ListN.{length};

@@ -14,7 +14,7 @@
 -- judgedWord v          the word of a point verdict: 0 none, 1 accept, 2 reject
 -- pointWords r          number, detail and the word of the verdict
 -- saidWord b            1 for yes, 0 for no
--- sheetWords r          number, detail, p, n, l and whether there was a line of blinding numbers
+-- sheetWords r          number, detail, p, n, l and whether there was a line of blinders
 -- countWords r k        number, detail and a count or a length
 -- countedWords r        with the count of lost gammas
 -- depositedWords r      with the length of the text

@@ -13,7 +13,7 @@
 //   guppyspoon_check_point     0 none, 1 accept, 2 reject
 //   guppyspoon_check_opening   0 none, 1 accept, 2 reject
 //   guppyspoon_lost_gammas     how many gammas are lost
-//   guppyspoon_read            p, n, l, and 1 or 0: whether the sheet has a line of blinding numbers
+//   guppyspoon_read            p, n, l, and 1 or 0: whether the sheet has a line of blinders
 //   guppyspoon_deposit         the number of bytes of the text
 //   guppyspoon_join            the number of bytes of the joined sheet
 //

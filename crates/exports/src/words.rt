@@ -138,7 +138,7 @@ fn said_word(b: bool) -> u32
     0
 }
 
-// The number, the detail, p, n, l and whether there was a line of blinding numbers.
+// The number, the detail, p, n, l and whether there was a line of blinders.
 pub fn put_sheet(r: SheetAnswer, buffer: &mut [u32])
     ensures { λ _. ⌜ now (buffer .exit) ≡ over (sheetWords r) (now (buffer .entry)) ⌝ }
 {

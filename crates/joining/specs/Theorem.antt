@@ -1,9 +1,8 @@
 -- What is proved of every two sheets that are joined.
 --
--- JoinedRightly one two   the joined sheet fits into the written buffer; reading it is accepted, also as a new sheet, and gives the joined numbers; it has no line of
---                         blinding numbers; they are a circuit of 2n
---                         rows with the public inputs of both; its wiring never leads from one sheet's positions to the other's; and its contents
---                         satisfy it with its public inputs exactly if those of both sheets did
+-- JoinedRightly one two   the joined sheet fits into the written buffer; reading it is accepted, also as a new sheet, and gives the joined numbers, with no line of blinders;
+--                         these numbers are a circuit of 2n rows with the public inputs of both; its wiring never leads from one sheet's positions to the other's; and its
+--                         contents satisfy it with its public inputs exactly if those of both sheets did
 -- joined-rightly          THE THEOREM: so it is wherever no reason of `join` applies
 -- join-fits               so the length that `join` answers is within the buffer
 --

@@ -59,7 +59,7 @@ pub record Worked : Type 0 where
   pub witness : joinedNumbers (onSheet bytes) (onSheet second) .witness ≡ 2 ∷ 3 ∷ 6 ∷ 2 ∷ 3 ∷ 6 ∷ 6 ∷ 6 ∷ 12 ∷ 6 ∷ 6 ∷ 12 ∷ []
   pub text : joinedText bytes second ≡ joinedBytes
   pub taken : answerOf (joinReasons bytes second 65536) ≡ record { number = 0; detail = 0 }
-  -- both with a line of blinding numbers, which is dropped; that of the second out of form; too great a number on that of the first, then an extra line in the second
+  -- both with a line of blinders, which is dropped; that of the second out of form; too great a number on that of the first, then an extra line in the second
   pub text-blinded : joinedText blinded (second ++ blinders) ≡ joinedBytes
   pub taken-blinded : answerOf (joinReasons blinded (second ++ blinders) 65536) ≡ record { number = 0; detail = 0 }
   pub nine-few : answerOf (joinReasons blinded (second ++ drop 2 blinders) 65536) ≡ record { number = 5; detail = 8 }

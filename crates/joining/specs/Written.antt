@@ -3,7 +3,7 @@
 -- joined-fits      the joined sheet has at most 65,536 bytes
 -- joined-accepted, joined-new   reading it is accepted, and so is taking it as a new sheet
 -- joined-back      and gives the joined numbers
--- joined-plain     it has no line of blinding numbers
+-- joined-plain     it has no line of blinders
 --
 -- Assumes nothing.
 use mathlib.Core.Path.{_≡_, _∙_}

@@ -23,7 +23,7 @@ pub fn joined_room() -> [u8; 65536]
     [0; 65536]
 }
 
-// The sheet of both circuits and what they are filled with, and zeros behind it. It has no line of blinding numbers, whether or not the two have one. All refusals are found before a lent byte is written.
+// The sheet of both circuits and what they are filled with, and zeros behind it. It has no line of blinders, whether or not the two have one. All refusals are found before a lent byte is written.
 pub fn join(one: &[u8], two: &[u8], joined: &mut [u8]) -> Joined
     ensures { λ r. ⌜ Joins (now (one .entry)) (now (two .entry)) (now (joined .entry)) r (now (joined .exit)) ⌝ }
 {

@@ -1,15 +1,16 @@
-// The first four polynomials of the transcript: the wires a, b, c and the grand product z, laid end to end, and blinded where e is 1.
+// The first four polynomials of the transcript: the wires a, b, c and the grand product z, laid end to end, and blinded where e is 1; e is 0 or 1.
 //
 // The public function is `lay_rows`, for the prover, which has checked its numbers.
 ghost use mathlib.Core.Path.{_≡_};
 ghost use mathlib.Core.List.{List};
 ghost use mathlib.Core.Option.{some, Option·map};
-ghost use Prim.Native.Nat.{ℕ, _*_, _<_, _≤_};
+ghost use Prim.Native.Nat.{ℕ, _<_};
 ghost use lib.ListN.{length};
 ghost use Rattle.algebra.specs.Polynomial.{coef, Elements};
 ghost use Rattle.transform.specs.Parts.{laid};
 ghost use Rattle.transform.specs.Transform.{interpolation};
-ghost use Rattle.circuit.specs.Buffers.{wireLength, zStart, zLength, tStart};
+ghost use Rattle.transform.specs.Points.{Points};
+ghost use Rattle.circuit.specs.Buffers.{witnessLength, wireLength, zStart, zLength, tStart};
 ghost use Rattle.circuit.specs.Circuit.{position, lentConstraints, lentWitness};
 ghost use Rattle.protocol.specs.Protocol.{zRows, wiresOf, zOf};
 ghost use Rattle.laying.specs.Rows.{laidRows};
@@ -23,13 +24,12 @@ fn lay_column(
     p: u32,
     n: u32,
     powers: &[u32],
-    labels: &[u32],
     witness: &[u32],
     column: usize,
     out: &mut [u32],
     spare: &mut [u32],
 )
-    requires { ⌜ Ready p n (now powers) (now labels) (now witness) × (column < 3) ⌝ }
+    requires { ⌜ Points p n (now powers) × Elements p (witnessLength n) (now witness) × (column < 3) ⌝ }
     requires { ⌜ (length (now out) ≡ n) × (length (now spare) ≡ n) ⌝ }
     ensures { λ _. ⌜ now (out .exit) ≡ interpolation p n (λ i. lentWitness n (now (witness .entry)) (position n column i)) ⌝ }
 {
@@ -43,21 +43,20 @@ fn lay_wire(
     p: u32,
     n: u32,
     powers: &[u32],
-    labels: &[u32],
     witness: &[u32],
     blinders: &[u32],
     column: usize,
     out: &mut [u32],
     spare: &mut [u32],
 )
-    requires { ⌜ Ready p n (now powers) (now labels) (now witness) × (column < 3) × Blinders e (now blinders) ⌝ }
+    requires { ⌜ Points p n (now powers) × Elements p (witnessLength n) (now witness) × (column < 3) × Blinders e (now blinders) ⌝ }
     requires { ⌜ (length (now out) ≡ wireLength e n) × (length (now spare) ≡ n) ⌝ }
     ensures { λ _. ⌜ now (out .exit) ≡ wiresOf e p n (lentWitness n (now (witness .entry))) (now (blinders .entry)) column ⌝ }
 {
     let m = n as usize;
     let k = 2 * e;
     let r = blinding::wire_blinder(e, blinders, column);
-    lay_column(p, n, powers, labels, witness, column, &mut out[..m], spare);
+    lay_column(p, n, powers, witness, column, &mut out[..m], spare);
     blinding::blind(p, m, &r, k, out);
 }
 
@@ -67,13 +66,12 @@ fn lay_wires(
     p: u32,
     n: u32,
     powers: &[u32],
-    labels: &[u32],
     witness: &[u32],
     blinders: &[u32],
     out: &mut [u32],
     spare: &mut [u32],
 )
-    requires { ⌜ Ready p n (now powers) (now labels) (now witness) × Blinders e (now blinders) ⌝ }
+    requires { ⌜ Points p n (now powers) × Elements p (witnessLength n) (now witness) × Blinders e (now blinders) ⌝ }
     requires { ⌜ (length (now out) ≡ zStart e n) × (length (now spare) ≡ n) ⌝ }
     ensures { λ _. ⌜ now (out .exit) ≡ laid (wiresOf e p n (lentWitness n (now (witness .entry))) (now (blinders .entry))) 3 ⌝ }
 {
@@ -87,8 +85,7 @@ fn lay_wires(
             p,
             n,
             powers,
-            labels,
-            witness,
+                witness,
             blinders,
             column,
             &mut out[at..end],
@@ -179,7 +176,6 @@ pub fn lay_rows(
         p,
         n,
         powers,
-        labels,
         witness,
         blinders,
         &mut out[..k],

@@ -22,7 +22,7 @@ use Rattle.field.specs.Reasons.{Reason, answerOf, lentReasons, badElement}
 use Rattle.field.specs.ReasonLaws.{none-applies, taken, both-none, both-taken, elements-of, elements-none}
 use Rattle.field.specs.Lent.{lent-numbers, lent-of, lent-taken}
 use Rattle.circuit.specs.Buffers.{polynomialCount, workLength, blindedBy}
-use Rattle.circuit.specs.Parts.{blinded-least}
+use Rattle.circuit.specs.Parts.{blinded-most}
 use Rattle.opening.specs.Reasons.{openingDue, listReasons, lentListReasons, counted, openingReasons}
 use Rattle.opening.specs.Buffers.{Checked}
 
@@ -75,7 +75,7 @@ module _ (p n : ℕ) (prepared transcript list evaluations opening challenges sc
       let lent = lent-of p n 0 long due refl (both .0) in
       record {
         checked = record {
-          readable = record { blinded = blinded-least n transcript; admissible = lent .admissible; prepared-length = cc (lent .lengths); transcript-length = cc (lent .lengths) };
+          readable = record { blinded = blinded-most n transcript; admissible = lent .admissible; prepared-length = cc (lent .lengths); transcript-length = cc (lent .lengths) };
           evaluations-length = cc (lent .lengths);
           opening-length = cc (lent .lengths);
           challenges-length = cc (lent .lengths);

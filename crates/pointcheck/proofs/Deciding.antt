@@ -14,7 +14,7 @@ use Rattle.field.specs.Lent.{lent-numbers, lent-of}
 use Rattle.field.specs.Reasons.{answerOf, lentReasons, badElement}
 use Rattle.field.specs.ReasonLaws.{none-applies, both-none, elements-of}
 use Rattle.circuit.specs.Buffers.{blindedBy}
-use Rattle.circuit.specs.Parts.{blinded-least}
+use Rattle.circuit.specs.Parts.{blinded-most}
 use Rattle.circuit.specs.Reasons.{pointDue, pointReasons}
 use Rattle.pointcheck.specs.Buffers.{Checked}
 
@@ -32,7 +32,7 @@ checked p n l publics prepared transcript challenges scratch none =
     let drawn : All P challenges = all-right P transcript challenges (all-right P prepared (transcript ++ challenges) (all-right P publics (prepared ++ (transcript ++ challenges)) below)) in
     let four : length challenges ≡ 4 = cc (lent .lengths) in
     record {
-      readable = record { blinded = blinded-least n transcript; admissible = lent .admissible; prepared-length = cc (lent .lengths); transcript-length = cc (lent .lengths) };
+      readable = record { blinded = blinded-most n transcript; admissible = lent .admissible; prepared-length = cc (lent .lengths); transcript-length = cc (lent .lengths) };
       publics-lent = record { admissible = lent .admissible; elements = all-left P publics (prepared ++ (transcript ++ challenges)) below };
       challenges-length = four;
       scratch-length = cc (lent .lengths);

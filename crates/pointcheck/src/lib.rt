@@ -27,7 +27,7 @@ pub struct PointAnswer {
     pub verdict: Judged,
 }
 
-// The work on checked numbers, e being 1 where the transcript is blinded, else 0: the two sides at zeta are compared, and the scratch is cleared.
+// The work on checked numbers: the two sides at zeta are compared, and the scratch is cleared.
 fn work(
     p: u32,
     n: u32,

@@ -76,10 +76,10 @@ module _ {p n : ℕ} (D : Domain p n) (e : ℕ) (b : List ℕ) where
       subst (λ (m : ℕ). Elements p m (blinded p n (zBlinder e b) (interpolation p n u))) (ap (λ (m : ℕ). n + m) (z-blinder-long e b))
       (blinded-elements n (zBlinder e b) _ (omega (arith, D .prime .two)))
 
-module _ (q n : ℕ) (D : Domain (suc q) n) (r : List ℕ) (u : ℕ → ℕ) where
+module _ (q n : ℕ) (r : List ℕ) (u : ℕ → ℕ) where
   pub interpolated-value : (x : ℕ) → Cong (suc q) (eval (blinded (suc q) n r (interpolation (suc q) n u)) x) (eval (interpolation (suc q) n u) x + (x ^ n + q) * eval r x)
   interpolated-value = blinded-value q n r (interpolation (suc q) n u) (interpolation-most (suc q) n u)
 
-  pub interpolated-at : (i : ℕ) → i < n → Cong (suc q) (eval (blinded (suc q) n r (interpolation (suc q) n u)) (point (suc q) n i)) (u i)
-  interpolated-at i l =
+  pub interpolated-at : Domain (suc q) n → (i : ℕ) → i < n → Cong (suc q) (eval (blinded (suc q) n r (interpolation (suc q) n u)) (point (suc q) n i)) (u i)
+  interpolated-at D i l =
       blinded-root q n r (interpolation (suc q) n u) (interpolation-most (suc q) n u) (point (suc q) n i) (point-power q n D i) ⨾ interpolation-at q n D u i l

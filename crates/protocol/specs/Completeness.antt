@@ -6,7 +6,7 @@
 -- grand          it is the grand product
 -- z-is, laid     z, and the transcript that the prover lays: there is one
 -- t-holds        t × (X^n - 1) is F
--- accepts        the point check accepts that transcript, whatever alpha and zeta are
+-- accepts        the point check accepts that transcript, whatever alpha and zeta are, and whichever numbers blind it
 --
 -- Assumes nothing.
 use mathlib.Core.Path.{_≡_, refl, sym, ap, _∙_}
@@ -31,7 +31,7 @@ use Rattle.transform.specs.Interpolation.{rows-positive}
 use Rattle.circuit.specs.Circuit.{Constraints, position, permutation, Satisfies}
 use Rattle.circuit.specs.Buffers.{wireLength, zLength}
 use Rattle.circuit.specs.Permutation.{permutation-perm, permutation-label}
-use Rattle.protocol.specs.Protocol.{fOf, factor, wiredTag, rowN, rowD, startPart, preparedPoly, prepared, wireBlinder, zBlinder, blinded, wiresOf, zOf, tOf, transcript, proved, pass, rowVerdict, accept, pointVerdict}
+use Rattle.protocol.specs.Protocol.{fOf, factor, wiredTag, rowN, rowD, startPart, preparedPoly, prepared, wireBlinder, zBlinder, zThrough, wiresOf, zOf, tOf, transcript, proved, pass, rowVerdict, accept, pointVerdict}
 use Rattle.protocol.specs.Rows.{RowHolds, rows-pass}
 use Rattle.protocol.specs.Values.{eval-F, gate-at, step-at, start-at, start-off}
 use Rattle.protocol.specs.Blinding.{wires-elements, z-elements, interpolated-at}
@@ -126,13 +126,13 @@ module _ (e q n : ℕ) (D : Domain (suc q) n) (C : Constraints) (x v : ℕ → �
   wires = wiresOf e (suc q) n v b
 
   abbrev pub z : List ℕ
-  z = blinded (suc q) n (zBlinder e b) (interpolation (suc q) n (coef rows))
+  z = zThrough e (suc q) n b rows
 
   pub z-is : zOf e (suc q) n C v b beta gamma ≡ some z
   z-is = z-laid e p n C v b beta gamma rows (grand .is)
 
   wires-fit : (c i : ℕ) → c < 3 → i < n → Cong (suc q) (eval (wires c) (P i)) (v (position n c i))
-  wires-fit c i h l = interpolated-at q n D (wireBlinder e b c) (λ r. v (position n c r)) i l
+  wires-fit c i h l = interpolated-at q n (wireBlinder e b c) (λ r. v (position n c r)) D i l
 
   wires-long : (c : ℕ) → c < 3 → length (wires c) ≡ wireLength e n
   wires-long c h = wires-elements D e b v c .long
@@ -141,7 +141,7 @@ module _ (e q n : ℕ) (D : Domain (suc q) n) (C : Constraints) (x v : ℕ → �
   z-long = z-elements D e b (coef rows) .long
 
   z-fit : (i : ℕ) → i < n → Cong (suc q) (eval z (P i)) (coef rows i)
-  z-fit = interpolated-at q n D (zBlinder e b) (coef rows)
+  z-fit = interpolated-at q n (zBlinder e b) (coef rows) D
 
   module _ (alpha : ℕ) where
     abbrev F : List ℕ

@@ -1,19 +1,20 @@
--- What five values give away (document 02, request 9): nothing. Whichever the witness, equally many choices of the nine blinders make any given five elements of
--- the values of the three wires and of z at a point zeta and of z at w × zeta.
+-- What five values give away (document 02, request 9): nothing. Whichever the witness, for equally many choices of the nine blinders the values of the three wires and of z
+-- at a zeta that is no row's point, and of z at w × zeta, are any five given elements.
 --
 -- THE STATEMENT
 -- FiveAt p n wire z zeta five          the values of three wires and of z at zeta, and of z at w × zeta, are the list `five`
 -- GivesFive p n C v beta gamma zeta five b   b is nine elements, and the blinded wires and z of the witness v have these values
 -- LaysFive p n C x v beta gamma alpha zeta five b   the same of the transcript that the prover lays
--- FiveValues p n Gives                 for every zeta with zeta^n ≠ 1 and every five elements, exactly p^4 choices give them; at zeta = 0 exactly p^5 where the last two
+-- FiveValues p n Gives                 for every zeta but 0 with zeta^n ≠ 1 and every five elements, exactly p^4 choices give them; at zeta = 0 exactly p^5 where the last two
 --                                      agree, and none else
 -- EquallyMany P Q                      exactly as many lists satisfy P as satisfy Q
 -- THE THEOREM
--- five-values                          FiveValues holds of what the definitions give, for every admissible p and n, every constraints, and every witness and pair with no zero
+-- five-values                          FiveValues holds of what the definitions give, for every admissible p and n, any constraints, and every witness and pair with no zero
 --                                      factor of any D(i) (reason 11 does not apply)
 -- five-laid                            and of what the prover lays, whatever alpha is
 -- five-of                              and of any property that says the same
--- equally-many                         so two witnesses have equally many choices for any five elements
+-- equally-many                         two properties of which it holds have equally many choices for any five elements
+-- equally-given                        so two fillings of one circuit, each with its public inputs, have; that they satisfy it is not needed
 --
 -- At zeta the polynomial X^n - 1 has a value Z that is not 0, and at w × zeta the same. Each of the four polynomials f has blinders of its own: it becomes f + r × (X^n - 1), so
 -- its value is f(zeta) + r(zeta) × Z. The nine are thus four polynomials r that fit given values, and how many do does not depend on the values (algebra's Fitting).
@@ -45,10 +46,10 @@ use Rattle.transform.specs.Transform.{interpolation}
 use Rattle.transform.specs.Interpolation.{rows-positive}
 use Rattle.circuit.specs.Circuit.{Constraints, position}
 use Rattle.circuit.specs.Buffers.{blinderCount, wireLength, wirePart, zPart}
-use Rattle.protocol.specs.Protocol.{wireBlinder, zBlinder, blinded, zRows, wiresOf, zOf, tOf, transcript, proved, zeroFactor}
+use Rattle.protocol.specs.Protocol.{wireBlinder, zBlinder, blinded, zRows, zThrough, wiresOf, zOf, tOf, transcript, proved, zeroFactor}
 use Rattle.protocol.specs.Blinding.{interpolated-value, wires-elements, z-elements}
 use Rattle.protocol.specs.Layout.{wire-part, z-part}
-use Rattle.protocol.specs.GrandProduct.{grand-product, laidZ, z-laid, proved-laid}
+use Rattle.protocol.specs.GrandProduct.{grand-product, z-laid, proved-laid}
 
 -- THE STATEMENT
 
@@ -175,7 +176,7 @@ module _ (q n : ℕ) (D : Domain (suc q) n) (C : Constraints) (v : ℕ → ℕ) 
   value : (r : List ℕ) (u : ℕ → ℕ) (x : ℕ) → Cong (suc q) (x ^ n) (zeta ^ n)
       → Cong (suc q) (eval (blinded (suc q) n r (interpolation (suc q) n u)) x) (eval r x * Z + eval (interpolation (suc q) n u) x)
   value r u x e =
-      interpolated-value q n D r u x ⨾ cong-add {a = eval (interpolation p n u) x} (cong refl) (cong-mul (cong-add e (cong refl)) (cong {b = eval r x} refl))
+      interpolated-value q n r u x ⨾ cong-add {a = eval (interpolation p n u) x} (cong refl) (cong-mul (cong-add e (cong refl)) (cong {b = eval r x} refl))
       ⨾ cong (omega arith)
 
   wire-value : (b : List ℕ) (c : ℕ) → Cong (suc q) (eval (wiresOf 1 (suc q) n v b c) zeta) (eval (wireBlinder 1 b c) zeta * Z + eval (wire c) zeta)
@@ -336,7 +337,7 @@ module _ {p n : ℕ} (D : Domain p n) (C : Constraints) (x v : ℕ → ℕ) (bet
 
   module _ (zeta : ℕ) (five b : List ℕ) where
     abbrev zs : List ℕ
-    zs = laidZ 1 p n C v b beta gamma rows is
+    zs = zThrough 1 p n b rows
 
     abbrev T : List ℕ
     T = transcript (wiresOf 1 p n v b) zs (tOf 1 p n C x v b zs beta gamma alpha)
@@ -401,3 +402,8 @@ equally-many {p} {G = G} {H} g h zeta l off five E = go (ℕ-discrete zeta 0) (�
     go (no ne) d = record { many = p ^ 4; one = g .off-zero zeta l ne off five E; other = h .off-zero zeta l ne off five E }
     go (yes e) (yes same) = rw e (record { many = p ^ 5; one = g .at-zero five E same; other = h .at-zero five E same })
     go (yes e) (no ne) = rw e (record { many = 0; one = g .never five E ne; other = h .never five E ne })
+
+pub equally-given : (p n : ℕ) → Admissible p n → (C : Constraints) (v v' : ℕ → ℕ) (beta gamma : ℕ) → zeroFactor p n C v beta gamma ≡ n → zeroFactor p n C v' beta gamma ≡ n
+    → (zeta : ℕ) → zeta < p → zeta ^ n % p ≢ 1 → (five : List ℕ) → Elements p 5 five
+    → EquallyMany (GivesFive p n C v beta gamma zeta five) (GivesFive p n C v' beta gamma zeta five)
+equally-given p n A C v v' beta gamma e f = equally-many (five-values p n A C v beta gamma e) (five-values p n A C v' beta gamma f)

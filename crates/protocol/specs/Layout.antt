@@ -24,7 +24,7 @@ use Rattle.transform.specs.Parts.{laid}
 use Rattle.circuit.specs.Circuit.{Constraints}
 use Rattle.circuit.specs.Buffers.{preparedCount, preparedLength, wireLength, zLength, quotientLength, transcriptLength, zStart, preparedPart, wirePart, zPart, tPart}
 use Rattle.protocol.specs.Blinding.{wires-elements, z-elements}
-use Rattle.protocol.specs.Protocol.{zBlinder, blinded, fOf, polyN, polyD, gatePart, stepPart, polyF, quotient, preparedPoly, prepared, zRows, wiresOf, tOf, transcript, proved, pointF}
+use Rattle.protocol.specs.Protocol.{zThrough, fOf, polyN, polyD, gatePart, stepPart, polyF, quotient, preparedPoly, prepared, zRows, wiresOf, tOf, transcript, proved, pointF}
 
 -- LISTS END TO END
 
@@ -114,7 +114,7 @@ proved-elements {p} {n} D e C x v b beta gamma alpha T h = go (zRows p n C v bet
         (before-elements (wiresOf e p n v b) 3 (wires-elements D e b v)
         (append-elements u (reduced-elements (quotientLength e n) _ (omega (arith, D .prime .two)))))
 
-    go : (o : Option (List ℕ)) → Option·map with (Option·map (λ rows. blinded p n (zBlinder e b) (interpolation p n (coef rows))) o) ≡ some T
+    go : (o : Option (List ℕ)) → Option·map with (Option·map (zThrough e p n b) o) ≡ some T
         → Elements p (transcriptLength e n) T
     go none is = absurd (Option·none-ne-some T is)
     go (some rows) is = subst (Elements p (transcriptLength e n)) (Option·some-injective _ T is) (whole _ (z-elements D e b (coef rows)))

@@ -23,7 +23,7 @@ use Rattle.field.specs.Fields.{tag}
 use Rattle.transform.specs.Transform.{interpolation}
 use Rattle.transform.specs.Interpolation.{interpolation-ext}
 use Rattle.circuit.specs.Circuit.{Constraints, position, gate}
-use Rattle.protocol.specs.Protocol.{rowN, rowD, zRows, polyN, polyD, gatePart, stepPart, polyF, fOf, wireBlinder, zBlinder, blinded, wiresOf, zOf, tOf, transcript, proved, RowVerdict, fails, gateIdentity, startIdentity, stepIdentity, rowAt, rowsFrom, rowVerdict, brokenGate, brokenCopy, zeroFactor, witnessReasons, tagged, lostGammas}
+use Rattle.protocol.specs.Protocol.{rowN, rowD, zRows, polyN, polyD, gatePart, stepPart, polyF, fOf, wireBlinder, blinded, zThrough, wiresOf, zOf, tOf, transcript, proved, RowVerdict, fails, gateIdentity, startIdentity, stepIdentity, rowAt, rowsFrom, rowVerdict, brokenGate, brokenCopy, zeroFactor, witnessReasons, tagged, lostGammas}
 use Rattle.protocol.specs.GrandProduct.{running-ext}
 
 -- the verdict of a row by its three tests
@@ -96,7 +96,7 @@ module _ (p n : ℕ) (v v' : ℕ → ℕ) (same : (k : ℕ) → k < 3 * n → v 
         pub proved-ext : (beta gamma alpha : ℕ) → proved e p n C x v b beta gamma alpha ≡ proved e p n C x v' b beta gamma alpha
         proved-ext beta gamma alpha =
             mapped _ _ laid (zOf e p n C v b beta gamma)
-            ∙ ap (λ rows. Option·map (λ z. transcript (wiresOf e p n v' b) z (tOf e p n C x v' b z beta gamma alpha)) (Option·map (λ r. blinded p n (zBlinder e b) (interpolation p n (coef r))) rows)) (z-rows beta gamma)
+            ∙ ap (λ rows. Option·map (λ z. transcript (wiresOf e p n v' b) z (tOf e p n C x v' b z beta gamma alpha)) (Option·map (zThrough e p n b) rows)) (z-rows beta gamma)
           where
             laid : (z : List ℕ) → transcript (wiresOf e p n v b) z (tOf e p n C x v b z beta gamma alpha) ≡ transcript (wiresOf e p n v' b) z (tOf e p n C x v' b z beta gamma alpha)
             laid z = rw (wires 0 (omega arith), wires 1 (omega arith), wires 2 (omega arith), whole z beta gamma alpha)

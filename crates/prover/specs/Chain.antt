@@ -31,11 +31,11 @@ use Rattle.circuit.specs.Circuit.{Constraints, position, lentConstraints, lentP
 use Rattle.circuit.specs.Buffers.{preparedLength, wireLength, workLength, wirePart, zPart}
 use Rattle.circuit.specs.RightlyLent.{prepare-taken}
 use Rattle.circuit.specs.Witness.{lent-below}
-use Rattle.protocol.specs.Protocol.{wireBlinder, zBlinder, blinded, wiresOf, tOf, prepared}
+use Rattle.protocol.specs.Protocol.{zThrough, wireBlinder, zBlinder, blinded, wiresOf, tOf, prepared}
 use Rattle.protocol.specs.Protocol as protocol
 use Rattle.protocol.specs.Blinding.{wires-elements, z-elements, interpolated-at}
 use Rattle.protocol.specs.Layout.{wire-part, z-part}
-use Rattle.protocol.specs.GrandProduct.{GrandProduct, grand-product, laidZ, proved-laid}
+use Rattle.protocol.specs.GrandProduct.{GrandProduct, grand-product, proved-laid}
 use Rattle.preparing.specs.Promises.{Prepares}
 use Rattle.rowcheck.specs.declared.RowAnswer.{RowAnswer}
 use Rattle.rowcheck.specs.declared.Verdict.the-variants.{Pass}
@@ -72,7 +72,7 @@ accepted-number a is = eqb-true (a .number) 0 is
 -- a blinded polynomial through given numbers has them at the rows' points
 row-value : (p n : ℕ) → Admissible p n → (r : List ℕ) (u : ℕ → ℕ) (i : ℕ) → i < n → valueAt p n (blinded p n r (interpolation p n u)) i ≡ u i % p
 row-value zero n A r u i h = absurd (omega (arith, domain zero n A .prime .two))
-row-value (suc q) n A r u i h = interpolated-at q n (domain (suc q) n A) r u i h .same
+row-value (suc q) n A r u i h = interpolated-at q n r u (domain (suc q) n A) i h .same
 
 row-values : (p n : ℕ) → Admissible p n → (r rows : List ℕ) → Elements p n rows → evaluation p n (blinded p n r (interpolation p n (coef rows))) ≡ rows
 unfolding evaluation
@@ -109,7 +109,7 @@ module _ (e p n l : ℕ) (selectors labels witness publics transcript challenges
   grand = grand-product D C v beta gamma (A .no-zero)
 
   abbrev z : List ℕ
-  z = laidZ e p n C v blinders beta gamma (grand .0) (grand .1 .is)
+  z = zThrough e p n blinders (grand .0)
 
   abbrev t : List ℕ
   t = tOf e p n C (lentPublic publics) v blinders z beta gamma alpha

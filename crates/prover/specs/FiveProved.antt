@@ -4,7 +4,7 @@
 -- ProvesFive       the nine numbers b are elements, and some answer of `prove_blinded`, lent these buffers and b, is accepted and leaves a transcript whose a, b, c, z at
 --                  zeta and z at w × zeta are the list `five`
 -- THE THEOREM
--- five-proved      of buffers that `prove_blinded` takes with some nine numbers, whichever: for every zeta with zeta^n ≠ 1 and every five elements, exactly p^4 choices of
+-- five-proved      of buffers that `prove_blinded` takes with some nine numbers, whichever: for every zeta but 0 with zeta^n ≠ 1 and every five elements, exactly p^4 choices of
 --                  the nine give these five; at zeta = 0 exactly p^5 where the last two agree, and none else
 -- equally-proved   so two witnesses that satisfy a circuit, each with its public inputs, have equally many choices for any five elements
 --

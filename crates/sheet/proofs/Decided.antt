@@ -4,7 +4,7 @@
 -- three            the words of the first line
 -- lines-bad, lines-extra, lines-right   the reason of the lines behind it: one is out of form; one is extra; neither
 -- front-bad, rest-bad   which line is out of form: one up to the challenges; none of these, so it is looked for behind them
--- blinded-at       whether a line of blinding numbers is there, by where that of the challenges ends
+-- blinded-at       whether a line of blinders is there, by where that of the challenges ends
 -- table-reasons    the reasons of the numbers, read off the table
 -- full-of          the table has room for the lines of the n and l that the reasons leave
 -- begun            what reading the lines behind the first asks

@@ -2,7 +2,7 @@
 --
 -- buffers          the lent buffers have the right lengths, where no reason applies
 -- ready            the table is full, for the n and l that were found
--- few              at most one line of blinding numbers was found
+-- few              at most one line of blinders was found
 -- read-accepted    no reason applies, and the blocks of the table are laid out
 -- read-refused     a reason applies, and nothing is written
 --

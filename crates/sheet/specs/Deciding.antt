@@ -1,7 +1,7 @@
 -- The reasons of a sheet as the functions test them, and what is known past them.
 --
 -- tableCircuit           the reasons of the circuit, 8 and 14, read off the table
--- tableNumbers           the reasons of all its numbers, e lines (0 or 1) being there of blinding numbers
+-- tableNumbers           the reasons of all its numbers, e lines (0 or 1) being there of blinders
 -- Opened s p n l at      what is known where 1 does not apply: p, n, l, and line 1 starts at `at`
 -- primeLine s            1, 2 and 16: the reasons of a new sheet's first line up to that of its prime
 -- Decides s reasons r t  what deciding by these reasons promises of its answer r and of the table t

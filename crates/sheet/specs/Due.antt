@@ -1,8 +1,8 @@
--- How many numbers a line of a sheet has, and how many lines of blinding numbers there are.
+-- How many numbers a line of a sheet has, and how many lines of blinders there are.
 --
 -- due-circuit, due-witness, due-publics, due-challenges, due-blinders   by where it stands
 -- picked              what holds of both of two things holds of the one that a test picks
--- blinded-most        at most one line of blinding numbers is there
+-- blinded-most        at most one line of blinders is there
 -- blinded-lines       how many are, where it is known whether one is
 -- some-due, due-most  every line has a number, and at most as many as the table has words for it
 --

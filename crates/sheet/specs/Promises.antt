@@ -15,7 +15,7 @@ use Rattle.circuit.specs.Buffers.{selectorsLength, labelsLength, witnessLength}
 use Rattle.sheet.specs.declared.SheetAnswer.{SheetAnswer}
 use Rattle.sheet.specs.Sheet.{sheetRows, sheetP, sheetN, sheetL, isBlinded, onSelectors, onLabels, onWitnessWith, onPublics, padded, drawnOn, sheetReasonsWith}
 
--- refused: p, n and l are 0, no line of blinding numbers is said to be there, and every buffer is as it came; accepted: the numbers of the sheet as they are lent for its n, zeros behind
+-- refused: p, n and l are 0, no line of blinders is said to be there, and every buffer is as it came; accepted: the numbers of the sheet as they are lent for its n, zeros behind
 pub record ReadsWith (L : Layout) (s selectors labels witness publics challenges : List ℕ) (r : SheetAnswer) (selectors' labels' witness' publics' challenges' : List ℕ)
     : Type 0 where
   pub answer : r .answer ≡ answerOf (sheetReasonsWith L s (length selectors) (length labels) (length witness) (length publics) (length challenges))

@@ -1,5 +1,5 @@
 -- What is written is read back: the sheet written from numbers below 2^32, as many as are lent for its n and l, is a sheet in form with no line of
--- blinding numbers, and its reading gives those numbers.
+-- blinders, and its reading gives those numbers.
 --
 -- SheetBack            what is read off the text s
 -- sheet-back           THE THEOREM, for the text of the numbers

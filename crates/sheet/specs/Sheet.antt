@@ -2,17 +2,17 @@
 --
 -- sheetRows            the greatest number of rows on a sheet; the lent buffers have the lengths that so many rows need
 -- challengeCount       the challenges on a sheet
--- drawnCount           the length of the buffer that both are laid in
+-- drawnCount           the length of the buffer that challenges and blinders are laid in
 -- labelField           the fields before the labels on a gate line: its selectors
 -- gateFields           the fields of a gate line: those, and three labels
 -- LINES
--- fieldsDue n l i      how many numbers line i has: 3 on the first, then those of n gate lines, n lines of 3, l of 1, one of the challenges, and one of the blinding numbers
+-- fieldsDue n l i      how many numbers line i has: 3 on the first, then those of n gate lines, n lines of 3, l of 1, one of the challenges, and one of the blinders
 -- plainLines n l       how many lines there are up to that of the challenges
--- linesDue e n l       how many lines there are, with e lines (0 or 1) of blinding numbers
+-- linesDue e n l       how many lines there are, with e lines (0 or 1) of blinders
 -- lineAt s n l i       where line i starts
 -- numberOf s n l i j   number j of line i
 -- sheetP, sheetN, sheetL   p, n and l: the numbers of the first line
--- isBlinded s n l      something stands behind the line of the challenges (document 02, request 9): it is the line of the blinding numbers
+-- isBlinded s n l      something stands behind the line of the challenges (document 02, request 9): it is the line of the blinders
 -- sheetBlinded s n l   the same as a number: how many such lines the sheet has
 -- isBad s n l i        line i is missing or out of form
 -- badFrom s n l i m    the lowest such line from line i on; m where there is none before line m
@@ -21,9 +21,9 @@
 -- NUMBERS AS THEY ARE LENT
 -- onPosition s n l k   the wire value of position k
 -- onSelectors, onLabels, onWitnessWith L, onPublics, onChallenges, onBlinders   number k of each kind; the witness is lent by the layout L
--- blindersOn s n l     the blinding numbers of the sheet: none where their line is absent
+-- blindersOn s n l     the blinders of the sheet: none where their line is absent
 -- padded m f count     count numbers, and zeros behind them up to m
--- drawnOn s n l        challenges and blinding numbers as they are laid in one buffer, zeros where the line of the latter is absent
+-- drawnOn s n l        challenges and blinders as they are laid in one buffer, zeros where the line of the latter is absent
 -- REASONS
 -- tooLong s            the sheet has more than 65,536 bytes
 -- sheetElementsWith L s n l   the elements in the order of 7
@@ -159,7 +159,7 @@ drawnOn s n l = tab (onChallenges s n l) challengeCount ++ padded blinderCount (
 abbrev pub tooLong : List ℕ → Bool
 tooLong s = ltb 65536 (length s)
 
--- the elements in the order of 7: selectors, witness, public inputs, challenges, blinding numbers
+-- the elements in the order of 7: selectors, witness, public inputs, challenges, blinders
 abbrev pub sheetElementsWith : Layout → List ℕ → ℕ → ℕ → List ℕ
 sheetElementsWith L s n l =
     tab (onSelectors s n l) (selectorsLength n)
@@ -175,7 +175,7 @@ abbrev pub lineReasons : List ℕ → ℕ → ℕ → List Reason
 lineReasons s n l =
     record { number = 5; detail = suc (badLine s n l); applies = ltb (badLine s n l) (linesDue (sheetBlinded s n l) n l) || isExtra s n l } ∷ []
 
--- sheet, selectors, labels, witness, public inputs, challenges with the blinding numbers behind them. The sheet has whatever length it has, so the first place never differs
+-- sheet, selectors, labels, witness, public inputs, challenges with the blinders behind them. The sheet has whatever length it has, so the first place never differs
 abbrev pub sheetDue : ℕ → List ℕ
 sheetDue bytes =
     bytes ∷ selectorsLength sheetRows ∷ labelsLength sheetRows ∷ witnessLength sheetRows ∷ sheetRows ∷ drawnCount ∷ []

@@ -6,14 +6,14 @@
 -- tablePlace i j       where field j of line i stands
 -- columnBlock n line field count   a block of the table that is lent column after column: `count` numbers of n lines, from this line and this field on
 -- rowBlock width line count         one that is lent row by row: `count` numbers of lines of `width` fields, from this line on
--- selectorsBlock, labelsBlock, witnessBlock, publicsBlock, challengesBlock, blindersBlock e   the blocks that are lent; e lines (0 or 1) are there of blinding numbers
+-- selectorsBlock, labelsBlock, witnessBlock, publicsBlock, challengesBlock, blindersBlock e   the blocks that are lent; e lines (0 or 1) are there of blinders
 -- placeIn B k, inTable t B k      where number k of a block stands, and the number
 -- selectorsIn, labelsIn, witnessIn, publicsIn, challengesIn, blindersIn e   number k of each block that is lent
 -- tableElements e n l t   the elements in the order of reason 7
--- tableDrawn e n l t   challenges and blinding numbers, as they are laid in one buffer
+-- tableDrawn e n l t   challenges and blinders, as they are laid in one buffer
 -- Held s n l m t       the table has the numbers of the lines from 1 to m - 1 of the sheet s
 -- HeldAll s n l t      it has those of all lines
--- Tabled s n l blinded t   it has, and `blinded` says whether a line of blinding numbers is there
+-- Tabled s n l blinded t   it has, and `blinded` says whether a line of blinders is there
 -- Begins s n l i at t  what reading the lines from line i on asks: it starts at `at`, the lines before it are in the table, and all lines fit into it
 -- Fits t B             the block lies within the table
 -- Full n l t           the table has room for the lines of n rows and l public inputs

@@ -3,7 +3,7 @@
 -- on-position     the wire value of a column and a row, in the witness as it is lent, is the field of that column on the line of that row
 -- selectors-same, labels-same, witness-same, publics-same, challenges-same, blinders-same   number k of each kind
 -- elements-same, selectors-list-same, labels-list-same   the elements end to end, the selectors and the labels
--- drawn-same      challenges and blinding numbers, as they are laid in one buffer
+-- drawn-same      challenges and blinders, as they are laid in one buffer
 -- elements-long   how many elements the table has
 -- unbound-table   selector s of row i is word s of line i + 1, so the row of a line that is no public row is the one that 14 names
 --

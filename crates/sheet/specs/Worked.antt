@@ -3,7 +3,7 @@
 -- bytes        the sheet
 -- without i, with i more   the sheet with byte i left out, and with more bytes before byte i
 -- publicBytes, changed i b, twoPublic   the sheet with row 0 made a public row; that sheet with another byte i; that sheet with l = 2
--- blinders, blinded    a line of nine blinding numbers, 1 to 9; the sheet with it at its end
+-- blinders, blinded    a line of nine blinders, 1 to 9; the sheet with it at its end
 -- over97, rows64, rows512   the sheet over 97; a first line of 64 rows over 97, and of 512 rows over the largest prime, with nothing behind it
 -- Worked, worked   what is read off the sheet, and the answers to it and to sheets near it; that they are so
 --
@@ -117,7 +117,7 @@ pub record Worked : Type 0 where
   pub qM-one : readAnswer (changed 13 49) ≡ record { number = 14; detail = 0 }
   pub qC-one : readAnswer (changed 15 49) ≡ record { number = 14; detail = 0 }
   pub second-row : readAnswer twoPublic ≡ record { number = 14; detail = 1 }
-  -- with no line of blinding numbers behind the challenges, and with one
+  -- with no line of blinders behind the challenges, and with one
   pub drawn : drawnOn bytes 2 0 ≡ 1 ∷ 1 ∷ 2 ∷ 2 ∷ 0 ∷ 0 ∷ 0 ∷ 0 ∷ 0 ∷ 0 ∷ 0 ∷ 0 ∷ 0 ∷ []
   pub drawn-nine : drawnOn blinded 2 0 ≡ 1 ∷ 1 ∷ 2 ∷ 2 ∷ 1 ∷ 2 ∷ 3 ∷ 4 ∷ 5 ∷ 6 ∷ 7 ∷ 8 ∷ 9 ∷ []
   pub none-blinded : isBlinded bytes 2 0 ≡ false
@@ -132,7 +132,7 @@ pub record Worked : Type 0 where
   -- 99 for 9 at its end: place 28, behind ten selectors, six contents, four challenges and eight more; and 11 before the last challenge, 2: it is 112, and place 19
   pub high-nine : readAnswer (bytes ++ (take 16 blinders ++ (57 ∷ drop 16 blinders))) ≡ record { number = 7; detail = 28 }
   pub high-challenge : readAnswer (with 60 (49 ∷ 49 ∷ []) ++ (take 16 blinders ++ (57 ∷ drop 16 blinders))) ≡ record { number = 7; detail = 19 }
-  -- the witness has room for 767 numbers; challenges and blinding numbers have room for the challenges only
+  -- the witness has room for 767 numbers; challenges and blinders have room for the challenges only
   pub short : answerOf (sheetReasons bytes 1280 768 767 256 13) ≡ record { number = 6; detail = 4 }
   pub short-drawn : answerOf (sheetReasons bytes 1280 768 768 256 4) ≡ record { number = 6; detail = 6 }
   -- over 97 a sheet is read as before

@@ -82,14 +82,14 @@ pub fn challenges(n: usize, l: usize) -> Block
     )
 }
 
-// Those of e lines, which are 0 or 1.
+// The blinders: e lines of them, 0 or 1.
 pub fn blinders(e: usize, n: usize, l: usize) -> Block
     requires { ⌜ (e ≤ 1) × (n ≤ sheetRows) × (l ≤ n) ⌝ }
     ensures { λ r. ⌜ r ≡ blindersBlock e n l ⌝ }
 {
     row_block(
-        super::BLINDER_COUNT,
+        circuit::BLINDER_COUNT,
         n + n + l + 2,
-        super::BLINDER_COUNT * e,
+        circuit::BLINDER_COUNT * e,
     )
 }

@@ -77,7 +77,7 @@ fn lay_circuit(table: &[u32], n: usize, selectors: &mut [u32], labels: &mut [u32
     lay(table, blocks::labels(n), labels);
 }
 
-// Challenges, and behind them the blinding numbers of e lines, which are 0 or 1.
+// Challenges, and behind them the blinders, e lines of them, 0 or 1.
 fn lay_drawn(table: &[u32], e: usize, n: usize, l: usize, out: &mut [u32])
     requires { ⌜ Full n l (now table) × (e ≤ 1) × (length (now out) ≡ drawnCount) ⌝ }
     ensures { λ _. ⌜ now (out .exit) ≡ tableDrawn e n l (now (table .entry)) ⌝ }
@@ -87,7 +87,7 @@ fn lay_drawn(table: &[u32], e: usize, n: usize, l: usize, out: &mut [u32])
     lay(table, blocks::blinders(e, n, l), &mut out[k..]);
 }
 
-// What the circuit is filled with: witness, public inputs, and challenges with the blinding numbers.
+// What the circuit is filled with: witness, public inputs, and challenges with the blinders.
 fn lay_filling(
     table: &[u32],
     e: usize,

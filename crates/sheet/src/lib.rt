@@ -22,7 +22,7 @@ pub use table::line_room;
 pub use table::table_place;
 pub use table::table_room;
 
-// The answer of `read`; whether the sheet has a line of blinding numbers. If refused p, n and l are 0, and it is said to have none.
+// The answer of `read`; whether the sheet has a line of blinders. If refused p, n and l are 0, and it is said to have none.
 pub struct SheetAnswer {
     pub answer: Answer,
     pub p: u32,
@@ -37,11 +37,8 @@ pub const ROWS: u32 = 256;
 // The challenges on a sheet.
 pub const CHALLENGE_COUNT: usize = 4;
 
-// The blinding numbers on a sheet that has a line of them.
-pub const BLINDER_COUNT: usize = circuit::BLINDER_COUNT;
-
 // The length of the buffer that both are laid in.
-pub const DRAWN_COUNT: usize = CHALLENGE_COUNT + BLINDER_COUNT;
+pub const DRAWN_COUNT: usize = CHALLENGE_COUNT + circuit::BLINDER_COUNT;
 
 // The fields before the labels on a gate line: its selectors.
 pub const LABEL_FIELD: usize = circuit::SELECTOR_COUNT;
@@ -49,7 +46,7 @@ pub const LABEL_FIELD: usize = circuit::SELECTOR_COUNT;
 // The fields of a gate line: those, and three labels.
 pub const GATE_FIELDS: usize = LABEL_FIELD + 3;
 
-// How many lines of blinding numbers a sheet has: 1 where it has one, else 0.
+// How many lines of blinders a sheet has: 1 where it has one, else 0.
 pub fn blinder_lines(blinded: bool) -> usize
     ensures { λ r. ⌜ r ≡ cond blinded 1 0 ⌝ }
 {
@@ -66,7 +63,7 @@ pub fn sheet_room() -> [u8; 65537]
     [0; 65537]
 }
 
-// The numbers of a sheet, laid out for ROWS rows, the blinding numbers behind the challenges. All refusals are found before a lent word is written.
+// The numbers of a sheet, laid out for ROWS rows, the blinders behind the challenges. All refusals are found before a lent word is written.
 pub fn read(
     sheet: &[u8],
     selectors: &mut [u32],

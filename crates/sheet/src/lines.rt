@@ -13,7 +13,7 @@ pub struct Lines {
     pub next: usize,
 }
 
-// The answer of reasons of the lines; whether there is a line of blinding numbers, where none applies.
+// The answer of reasons of the lines; whether there is a line of blinders, where none applies.
 pub struct Lined {
     pub answer: Answer,
     pub blinded: bool,
@@ -39,7 +39,7 @@ fn fields_due(n: usize, l: usize, i: usize) -> usize
     if i <= n + n + l + 1 {
         return super::CHALLENGE_COUNT;
     }
-    super::BLINDER_COUNT
+    circuit::BLINDER_COUNT
 }
 
 // Reads line after line from line `first` on, which starts at `start`, up to the first that is missing or out of form, or to line `due`.
@@ -83,7 +83,7 @@ fn out_of_form(i: usize) -> Lined
     }
 }
 
-// The reason of the lines, where those up to the challenges are read. Where anything stands behind these, from `start` on, it is the line of the blinding numbers.
+// The reason of the lines, where those up to the challenges are read. Where anything stands behind these, from `start` on, it is the line of the blinders.
 fn decide_rest(s: &[u8], n: usize, l: usize, start: usize, table: &mut [u32]) -> Lined
     requires { ⌜ Begins (now s) n l (plainLines n l) start (now table) × (badFrom (now s) n l 1 (plainLines n l) ≡ plainLines n l) ⌝ }
     ensures { λ r. ⌜ r .answer ≡ answerOf (lineReasons (now (s .entry)) n l) ⌝ }

@@ -8,7 +8,7 @@ use super::blocks;
 use super::laying;
 use field::Answer;
 
-// The place of the first element that is p or more, counted through selectors, witness, public inputs, challenges and the blinding numbers of e lines end
+// The place of the first element that is p or more, counted through selectors, witness, public inputs, challenges and the blinders of e lines end
 // to end; their number where there is none.
 fn elements(e: usize, p: u32, n: usize, l: usize, table: &[u32]) -> usize
     requires { ⌜ Full n l (now table) × (e ≤ 1) ⌝ }
@@ -52,7 +52,7 @@ pub fn decide_numbers(e: usize, p: u32, n: usize, l: usize, table: &[u32]) -> An
         + circuit::witness_length(n)
         + l
         + super::CHALLENGE_COUNT
-        + super::BLINDER_COUNT * e;
+        + circuit::BLINDER_COUNT * e;
     let answer = field::decide_at(7, at, count);
     let number = answer.number;
     if number != 0 {

@@ -59,7 +59,7 @@ fn decide_behind(
     Lined { answer, blinded }
 }
 
-// A refusal: p, n and l are 0, and no line of blinding numbers is there.
+// A refusal: p, n and l are 0, and no line of blinders is there.
 fn turned_down(answer: Answer) -> SheetAnswer
     ensures { λ r. ⌜ r ≡ record { answer = answer; p = 0; n = 0; l = 0; blinded = false } ⌝ }
 {

@@ -6,7 +6,7 @@
 -- ProofAsBefore r' t' s' r t s        `prove` and `prove_blinded`: every word of the transcript and of the scratch
 -- CountAsBefore r' r                  `lost_gammas`: the count
 -- A call that reads sheets is given the same ones
--- ReadAsBefore r' .. r ..             `read`: p, n, l, whether there is a line of blinding numbers, and every word of the buffers, but for the witness, which is the
+-- ReadAsBefore r' .. r ..             `read`: p, n, l, whether there is a line of blinders, and every word of the buffers, but for the witness, which is the
 --                                     one that it was, transferred
 -- DepositAsBefore r' text' r text     `deposit`: the answer with its detail; and every byte, unless both texts are the line of a refusal with 7, in which the detail is
 --                                     printed

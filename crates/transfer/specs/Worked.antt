@@ -2,7 +2,7 @@
 --
 -- columns, rows    the wire values of the sheet in both layouts
 -- highB            those in columns, with 17 at b of row 0
--- highNine         the sheet with a line of blinding numbers, of which the last is 99
+-- highNine         the sheet with a line of blinders, of which the last is 99
 -- twelve           the numbers 0 to 11
 -- Worked, worked   what the definitions make of them, and their answers; that they are so
 --
@@ -61,7 +61,7 @@ pub record Worked : Type 0 where
   pub printed-before : depositTextWith byColumns (with 43 (50 ∷ 49 ∷ [])) ≡ refusedText 7 12
   pub printed-now : depositText (with 43 (50 ∷ 49 ∷ [])) ≡ refusedText 7 11
   pub joined-before : joinedTextWith byColumns bytes second ≡ joinedBytes
-  -- with a line of blinding numbers: the same witness is read; a number on that line is counted alike in both layouts, behind the witness; and joining drops the line
+  -- with a line of blinders: the same witness is read; a number on that line is counted alike in both layouts, behind the witness; and joining drops the line
   pub read-blinded : columnsRead blinded 2 0 ≡ columns
   pub nine-before : depositTextWith byColumns highNine ≡ refusedText 7 28
   pub nine-now : depositText highNine ≡ refusedText 7 28

@@ -32,7 +32,7 @@ arrays c =
       drawn-long = c .before .before .before .before .before .before .drawn-room .ensures;
     }
 
--- how many lines of blinding numbers the sheet has
+-- how many lines of blinders the sheet has
 abbrev lines : tie.After-read → ℕ
 lines c = cond (c .read .result .blinded) 1 0
 

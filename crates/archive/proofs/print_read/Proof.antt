@@ -19,7 +19,7 @@ cut : (e p n l : ℕ) (s w v x c d : List ℕ) {i j k m : ℕ} → i ≡ selecto
     ≡ workText e p n l (take (selectorsLength n) s) (take (labelsLength n) w) (take (witnessLength n) v) x c (take (blinderCount * e) d)
 cut e p n l s w v x c d f g h i = rw (f, g, h, i)
 
--- the blinding numbers behind the challenges
+-- the blinders behind the challenges
 nine : (s : tie.Start) → challengeCount + blinderCount * s .args .e - challengeCount ≡ blinderCount * s .args .e
 nine s = omega arith
 

@@ -1,8 +1,7 @@
 -- `laying::lay_column` meets its contract: the wire values of the column, interpolated in place. Assumes nothing.
-use mathlib.Core.Path.{_≡_, ap, _∙_}
+use mathlib.Core.Path.{ap, _∙_}
 use mathlib.Core.List.{List}
 use Prim.Native.Nat.{ℕ}
-use native.Mathlib.Omega.{arith}
 use lib.ListN.{getD}
 use borrow.Author.Needs.{needs}
 use Rattle.algebra.specs.Tables.{getD-tab}
@@ -15,15 +14,15 @@ use Rattle.laying.proofs.lay_column.Tie as tie
 
 column-values-requires : tie.Need-column-values-requires
 column-values-requires c κs =
-    let s = c .before .before .before .before .before .before in
-    (points-small (s .pre .0 .0 .points), s .pre .0 .1, s .pre .0 .0 .elements .long, s .pre .1 .0)
+    let s = c .before .before .before .before .before in
+    (points-small (s .pre .0 .0), s .pre .0 .2, s .pre .0 .1 .long, s .pre .1 .0)
 
 interpolate-in-place-requires : tie.Need-interpolate-in-place-requires
 interpolate-in-place-requires c κs =
-    let s = c .before .before .before .before .before .before .before .before .before .before .before in
+    let s = c .before .before .before .before .before .before .before .before .before .before in
     record {
-      domain-lent = s .pre .0 .0 .points;
-      elements = column-elements (s .args .n) (s .args .column) (s .args .witness .now) _ (s .pre .0 .1) (s .pre .0 .0 .elements) (c .before .before .before .before .column-values .ensures);
+      domain-lent = s .pre .0 .0;
+      elements = column-elements (s .args .n) (s .args .column) (s .args .witness .now) _ (s .pre .0 .2) (s .pre .0 .1) (c .before .before .before .before .column-values .ensures);
       spare = s .pre .1 .1;
     }
 
@@ -35,7 +34,7 @@ same-length-2 c = search needs
 
 returns : tie.Need-returns
 returns c =
-    let s = c .before .before .before .before .before .before .before .before .before .before .before .before .before .before .before .before in
+    let s = c .before .before .before .before .before .before .before .before .before .before .before .before .before .before .before in
     let a = s .args in
     c .before .before .before .before .interpolate-in-place .ensures
     ∙ interpolation-ext (a .p) (a .n) _ _ (λ i h.

@@ -29,7 +29,7 @@ slice-aggregate-lay-wires c = sym (length-take-le _ _ (fits (c .before)))
 lay-wires-requires : tie.Need-lay-wires-requires
 lay-wires-requires c κs =
     let s = c .before .before .before .before .before .before .before .before .before in
-    ((s .pre .0 .0, s .pre .0 .2), (length-take-le _ _ (fits (c .before .before)) ∙ c .before .before .z-start .ensures, s .pre .1 .1))
+    ((s .pre .0 .0 .points, s .pre .0 .0 .elements, s .pre .0 .2), (length-take-le _ _ (fits (c .before .before)) ∙ c .before .before .z-start .ensures, s .pre .1 .1))
 
 mul-lay-z : tie.Need-mul-lay-z
 mul-lay-z c = search needs
@@ -50,8 +50,8 @@ lay-z-requires c κs =
     let w = c .before .before .before .before .before .before .lay-wires in (
       s .pre .0,
       (
-        rest-length (d .z-start .result) (s .args .out .now) (w .last .1 .1 .1 .1 .1 .1 .1 .0) (fits d) (w .kept .1 .1 .1 .1 .1 .1 .1 .0) ∙ omega (arith, s .pre .1 .0, d .z-start .ensures),
-        w .kept .1 .1 .1 .1 .1 .1 .1 .1 .0 ∙ s .pre .1 .1,
+        rest-length (d .z-start .result) (s .args .out .now) (w .last .1 .1 .1 .1 .1 .1 .0) (fits d) (w .kept .1 .1 .1 .1 .1 .1 .0) ∙ omega (arith, s .pre .1 .0, d .z-start .ensures),
+        w .kept .1 .1 .1 .1 .1 .1 .1 .0 ∙ s .pre .1 .1,
       ),
     )
 
@@ -69,7 +69,7 @@ returns c selectors =
     let z = c .before .before .before .before .lay-z in
     wires-laid (a .e) (a .p) (a .n) (lentWitness (a .n) (a .witness .now)) (lentConstraints (a .n) selectors (a .labels .now)) (a .blinders .now) (a .beta) (a .gamma) _ (z .ensures selectors)
     ∙ ap {B = Option (List ℕ)} some
-    (sym (both-parts (d .z-start .result) (a .out .now) (w .last .1 .1 .1 .1 .1 .1 .1 .0) (fits d) (w .kept .1 .1 .1 .1 .1 .1 .1 .0) (z .last .1 .1 .1 .1 .1 .1 .1 .1 .1 .0) _ _ (w .ensures) refl))
+    (sym (both-parts (d .z-start .result) (a .out .now) (w .last .1 .1 .1 .1 .1 .1 .0) (fits d) (w .kept .1 .1 .1 .1 .1 .1 .0) (z .last .1 .1 .1 .1 .1 .1 .1 .1 .1 .0) _ _ (w .ensures) refl))
 
 pub lay-rows-spec : {M : Type 1} → statement M
 lay-rows-spec =

@@ -1,6 +1,5 @@
 -- `laying::lay_wire` meets its contract: the polynomial of the column, blinded. Assumes nothing.
-use mathlib.Core.Path.{_≡_, refl, sym, ap, ap₂, subst, _∙_}
-use mathlib.Core.List.{List}
+use mathlib.Core.Path.{sym, ap₂, subst, _∙_}
 use Prim.Native.Nat.{ℕ, _≤_, _<_}
 use native.Mathlib.Omega.{arith}
 use lib.ListN.{length}
@@ -19,7 +18,7 @@ fits : (s : tie.Start) → s .args .n ≤ length (s .args .out .now)
 fits s = omega (arith, s .pre .1 .0)
 
 positive : (s : tie.Start) → 0 < s .args .p
-positive s = omega (arith, domain _ _ (s .pre .0 .0 .points .admissible) .prime .two)
+positive s = omega (arith, domain _ _ (s .pre .0 .0 .admissible) .prime .two)
 
 mul-k : tie.Need-mul-k
 mul-k c = search needs
@@ -31,23 +30,23 @@ slice-relend-prefix-lay-column : tie.Need-slice-relend-prefix-lay-column
 slice-relend-prefix-lay-column c = search needs
 
 slice-aggregate-lay-column : tie.Need-slice-aggregate-lay-column
-slice-aggregate-lay-column c = sym (length-take-le _ _ (fits (c .before .before .before .before .before .before .before .before)))
+slice-aggregate-lay-column c = sym (length-take-le _ _ (fits (c .before .before .before .before .before .before .before)))
 
 lay-column-requires : tie.Need-lay-column-requires
 lay-column-requires c κs =
-    let s = c .before .before .before .before .before .before .before .before .before in
-    ((s .pre .0 .0, s .pre .0 .1), (length-take-le _ _ (fits s), s .pre .1 .1))
+    let s = c .before .before .before .before .before .before .before .before in
+    ((s .pre .0 .0, s .pre .0 .1, s .pre .0 .2), (length-take-le _ _ (fits s), s .pre .1 .1))
 
 slice-aggregate-blind : tie.Need-slice-aggregate-blind
 slice-aggregate-blind c = search needs
 
 blind-requires : tie.Need-blind-requires
 blind-requires c κs =
-    let s = c .before .before .before .before .before .before .before .before .before .before .before .before .before .before .before .before in
+    let s = c .before .before .before .before .before .before .before .before .before .before .before .before .before .before .before in
     let w = c .before .before .before .before .before .before .lay-column in
     let r = c .before .before .before .before .before .before .before .before .before .wire-blinder .ensures in
-    let front = front-array (s .args .n) (s .args .out .now) (w .last .1 .1 .1 .1 .1 .1 .0) (fits s) (w .kept .1 .1 .1 .1 .1 .1 .0) _ _ (sym (s .pre .1 .0)) (w .ensures) in
-    (positive s, omega (arith, r .0, s .pre .0 .2 .small), sym (front .0), subst (All (λ (x : ℕ). x < s .args .p)) (sym (front .1)) (interpolation-elements (domain _ _ (s .pre .0 .0 .points .admissible)) _ .below))
+    let front = front-array (s .args .n) (s .args .out .now) (w .last .1 .1 .1 .1 .1 .0) (fits s) (w .kept .1 .1 .1 .1 .1 .0) _ _ (sym (s .pre .1 .0)) (w .ensures) in
+    (positive s, omega (arith, r .0, s .pre .0 .3 .small), sym (front .0), subst (All (λ (x : ℕ). x < s .args .p)) (sym (front .1)) (interpolation-elements (domain _ _ (s .pre .0 .0 .admissible)) _ .below))
 
 same-length : tie.Need-same-length
 same-length c = search needs
@@ -57,9 +56,9 @@ same-length-2 c = search needs
 
 returns : tie.Need-returns
 returns c =
-    let s = c .before .before .before .before .before .before .before .before .before .before .before .before .before .before .before .before .before .before .before in
+    let s = c .before .before .before .before .before .before .before .before .before .before .before .before .before .before .before .before .before .before in
     let w = c .before .before .before .before .before .before .before .before .before .lay-column in
-    let front = front-array (s .args .n) (s .args .out .now) (w .last .1 .1 .1 .1 .1 .1 .0) (fits s) (w .kept .1 .1 .1 .1 .1 .1 .0) _ _ (sym (s .pre .1 .0)) (w .ensures) in
+    let front = front-array (s .args .n) (s .args .out .now) (w .last .1 .1 .1 .1 .1 .0) (fits s) (w .kept .1 .1 .1 .1 .1 .0) _ _ (sym (s .pre .1 .0)) (w .ensures) in
     c .before .before .blind .ensures ∙ ap₂ (blinded (s .args .p) (s .args .n)) (c .before .before .before .before .before .before .before .before .before .before .before .before .wire-blinder .ensures .1) (front .1)
 
 pub lay-wire-spec : {M : Type 1} → statement M

@@ -1,7 +1,6 @@
 -- `laying::lay_wires` meets its contract: after so many turns so many wires are laid end to end. Assumes nothing.
-use mathlib.Core.Path.{_≡_, refl, sym, ap, _∙_}
-use mathlib.Core.List.{List}
-use Prim.Native.Nat.{ℕ, _+_, _*_, _-_, _≤_, _<_}
+use mathlib.Core.Path.{_≡_, sym, ap, _∙_}
+use Prim.Native.Nat.{_+_, _*_, _-_, _≤_}
 use native.Mathlib.Nat.{suc-mul}
 use native.Mathlib.Numerals.{add-one}
 use native.Mathlib.Omega.{arith}
@@ -19,30 +18,30 @@ use Rattle.laying.proofs.lay_wires.Statement.{statement}
 use Rattle.laying.proofs.lay_wires.Tie as tie
 
 abbrev Inv-loop : tie.InvT-loop
-Inv-loop e p n powers labels witness blinders out₀ spare₀ k column₀ at₀ out spare column at =
+Inv-loop e p n powers witness blinders out₀ spare₀ k column₀ at₀ out spare column at =
     (column ≤ 3) × (at ≡ column * k) × (take at out ≡ laid (wiresOf e p n (lentWitness n witness) blinders) column) × (length out ≡ length out₀) × (length spare ≡ length spare₀)
 
 abbrev μ-loop : tie.MeasureT-loop
-μ-loop e p n powers labels witness blinders out₀ spare₀ k column₀ at₀ out spare column at = 3 - column
+μ-loop e p n powers witness blinders out₀ spare₀ k column₀ at₀ out spare column at = 3 - column
 
 wire-length-requires : tie.Need-wire-length-requires Inv-loop μ-loop
 wire-length-requires c κs =
-    let s = c .before .before .before .before .before .before in
-    (s .pre .0 .1 .small, omega (arith, points-small (s .pre .0 .0 .points)))
+    let s = c .before .before .before .before .before in
+    (s .pre .0 .2 .small, omega (arith, points-small (s .pre .0 .0)))
 
 loop-holds : tie.Need-loop-holds Inv-loop μ-loop
-loop-holds c = (search needs, omega arith, none-laid _ (c .before .before .before .before .before .before .before .args .out .now), search needs, search needs)
+loop-holds c = (search needs, omega arith, none-laid _ (c .before .before .before .before .before .before .args .out .now), search needs, search needs)
 
 -- the wire of this turn lies within the words, and has the length of a wire
 fits : (c : tie.In-loop Inv-loop μ-loop)
     → c .before .loop .at + c .before .before .wire-length .result ≤ length (c .before .loop .out)
 fits c =
-    let s = c .before .before .before .before .before .before .before .before .before in
+    let s = c .before .before .before .before .before .before .before .before in
     let k = c .before .before .wire-length .ensures in
     omega (arith, run-room (c .before .loop .column) 3 (c .before .before .wire-length .result) (c .loop-test .taken), c .before .loop .inv .1, c .before .loop .inv .3, s .pre .1 .0, k)
 
 long : (c : tie.In-loop Inv-loop μ-loop)
-    → length (midOf (c .before .loop .at) (c .before .loop .at + c .before .before .wire-length .result - c .before .loop .at) (c .before .loop .out)) ≡ wireLength (c .before .before .before .before .before .before .before .before .before .args .e) (c .before .before .before .before .before .before .before .before .before .args .n)
+    → length (midOf (c .before .loop .at) (c .before .loop .at + c .before .before .wire-length .result - c .before .loop .at) (c .before .loop .out)) ≡ wireLength (c .before .before .before .before .before .before .before .before .args .e) (c .before .before .before .before .before .before .before .before .args .n)
 long c = mid-len _ _ _ (fits c) ∙ omega (arith, c .before .before .wire-length .ensures)
 
 add-end : tie.Need-add-end Inv-loop μ-loop
@@ -62,9 +61,9 @@ part-lay-wire-end c = omega (arith, fits c)
 
 lay-wire-requires : tie.Need-lay-wire-requires Inv-loop μ-loop
 lay-wire-requires c κs =
-    let s = c .before .before .before .before .before .before .before .before .before .before .before in
+    let s = c .before .before .before .before .before .before .before .before .before .before in
     let i = c .before .before in
-    ((s .pre .0 .0, i .loop-test .taken, s .pre .0 .1), (long i, c .before .before .before .loop .inv .4 ∙ s .pre .1 .1))
+    ((s .pre .0 .0, s .pre .0 .1, i .loop-test .taken, s .pre .0 .2), (long i, c .before .before .before .loop .inv .4 ∙ s .pre .1 .1))
 
 add-column : tie.Need-add-column Inv-loop μ-loop
 add-column c = search needs
@@ -74,15 +73,15 @@ loop-less c = search needs
 
 loop-again : tie.Need-loop-again Inv-loop μ-loop
 loop-again c =
-    let s = c .before .before .before .before .before .before .before .before .before .before .before .before .before .before .before .before in
+    let s = c .before .before .before .before .before .before .before .before .before .before .before .before .before .before .before in
     let i = c .before .before .before .before .before .before .before in
     let l = i .before .loop in
     let w = c .before .before .before .before .lay-wire in (
       omega arith,
       rw (add-one (l .column), suc-mul (l .column) (i .before .before .wire-length .result)) (omega arith),
-      one-laid _ (l .column) (l .at) (i .before .before .wire-length .result) (l .out) (w .last .1 .1 .1 .1 .1 .1 .1 .1 .0) (l .inv .2) (omega (arith, fits i)) (w .ensures) (w .kept .1 .1 .1 .1 .1 .1 .1 .1 .0 ∙ long i ∙ sym (i .before .before .wire-length .ensures)),
-      same-len-mid (l .at) (l .at + i .before .before .wire-length .result - l .at) (l .out) (w .last .1 .1 .1 .1 .1 .1 .1 .1 .0) (w .kept .1 .1 .1 .1 .1 .1 .1 .1 .0) ∙ l .inv .3,
-      w .kept .1 .1 .1 .1 .1 .1 .1 .1 .1 .0 ∙ l .inv .4,
+      one-laid _ (l .column) (l .at) (i .before .before .wire-length .result) (l .out) (w .last .1 .1 .1 .1 .1 .1 .1 .0) (l .inv .2) (omega (arith, fits i)) (w .ensures) (w .kept .1 .1 .1 .1 .1 .1 .1 .0 ∙ long i ∙ sym (i .before .before .wire-length .ensures)),
+      same-len-mid (l .at) (l .at + i .before .before .wire-length .result - l .at) (l .out) (w .last .1 .1 .1 .1 .1 .1 .1 .0) (w .kept .1 .1 .1 .1 .1 .1 .1 .0) ∙ l .inv .3,
+      w .kept .1 .1 .1 .1 .1 .1 .1 .1 .0 ∙ l .inv .4,
     )
 
 same-length : tie.Need-same-length Inv-loop μ-loop
@@ -93,7 +92,7 @@ same-length-2 c = search needs
 
 returns : tie.Need-returns Inv-loop μ-loop
 returns c =
-    let s = c .before .before .before .before .before .before .before .before .before in
+    let s = c .before .before .before .before .before .before .before .before in
     let l = c .before .loop in
     let k : c .before .before .wire-length .result ≡ wireLength (s .args .e) (s .args .n) = c .before .before .wire-length .ensures in
     let last : l .column ≡ 3 = omega (arith, l .inv .0, c .loop-test .left) in

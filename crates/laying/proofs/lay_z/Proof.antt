@@ -1,7 +1,7 @@
 -- `laying::lay_z` meets its contract: the polynomial through z on the rows, blinded. Assumes nothing.
-use mathlib.Core.Path.{_≡_, refl, sym, ap, ap₂, subst, _∙_}
+use mathlib.Core.Path.{refl, sym, ap, ap₂, subst, _∙_}
 use mathlib.Core.List.{List}
-use mathlib.Core.Option.{Option, none, some, Option·map}
+use mathlib.Core.Option.{Option, some}
 use Prim.Native.Nat.{ℕ, _≤_, _<_}
 use native.Mathlib.Omega.{arith}
 use lib.ListN.{length}
@@ -10,10 +10,8 @@ use borrow.Author.Needs.{needs}
 use Rattle.algebra.specs.Ends.{front-array}
 use Rattle.algebra.specs.Lists.{All}
 use Rattle.field.specs.Domain.{domain}
-use Rattle.transform.specs.Transform.{interpolation}
-use Rattle.algebra.specs.Polynomial.{coef}
 use Rattle.circuit.specs.Circuit.{lentConstraints, lentWitness}
-use Rattle.protocol.specs.Protocol.{zRows, zBlinder, blinded}
+use Rattle.protocol.specs.Protocol.{blinded}
 use Rattle.laying.proofs.ZLaws.{z-blinded}
 use Rattle.laying.proofs.lay_z.Statement.{statement}
 use Rattle.laying.proofs.lay_z.Tie as tie

@@ -8,7 +8,7 @@ use Rattle.field.specs.Primes.{rows-power}
 use Rattle.field.specs.Reasons.{Reason, badElement}
 use Rattle.field.specs.Lent.{lent-refused, lent-later, lent-known}
 use Rattle.circuit.specs.Buffers.{preparedLength, transcriptLength, blindedBy}
-use Rattle.circuit.specs.Parts.{blinded-least}
+use Rattle.circuit.specs.Parts.{blinded-most}
 use Rattle.circuit.specs.Reasons.{pointDue}
 use borrow.Author.Needs.{needs}
 use Rattle.pointcheck.proofs.decide.decide.Statement.{statement}
@@ -60,7 +60,7 @@ numbers-requires c κs =
     let prepared : length (s .args .prepared .now) ≡ preparedLength (s .args .n) = cc (lent .lengths) in
     let transcript : length (s .args .transcript .now) ≡ transcriptLength (blindedBy (s .args .n) (s .args .transcript .now)) (s .args .n) = cc (lent .lengths) in
     let challenges : length (s .args .challenges .now) ≡ 4 = cc (lent .lengths) in
-    omega (arith, rows-power _ _ (lent .admissible .rows) .small, lent .publics-few, blinded-least (s .args .n) (s .args .transcript .now))
+    omega (arith, rows-power _ _ (lent .admissible .rows) .small, lent .publics-few, blinded-most (s .args .n) (s .args .transcript .now))
 
 returns-2 : tie.Need-returns-2
 returns-2 c =

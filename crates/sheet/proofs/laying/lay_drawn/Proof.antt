@@ -1,4 +1,4 @@
--- `sheet::laying::lay_drawn` meets its contract: the challenges in front, the blinding numbers behind them. Assumes nothing.
+-- `sheet::laying::lay_drawn` meets its contract: the challenges in front, the blinders behind them. Assumes nothing.
 use mathlib.Core.Path.{_≡_, sym, _∙_}
 use mathlib.Core.List.{append-nil}
 use Prim.Native.Nat.{_≤_}

@@ -1,4 +1,4 @@
--- `sheet::laying::lay_filling` meets its contract: two blocks of the table are laid out, then challenges and blinding numbers. Assumes nothing.
+-- `sheet::laying::lay_filling` meets its contract: two blocks of the table are laid out, then challenges and blinders. Assumes nothing.
 use native.Mathlib.Omega.{arith}
 use borrow.Author.Needs.{needs}
 use Rattle.sheet.proofs.BlockLaws.{witness-fit, publics-fit, count-room, laid-block}

@@ -12,7 +12,7 @@ use Rattle.sheet.proofs.Decided.{lines-bad, lines-extra, lines-right, r
 use Rattle.sheet.proofs.lines.decide_rest.Statement.{statement}
 use Rattle.sheet.proofs.lines.decide_rest.Tie as tie
 
--- where the call begins; how many lines of blinding numbers are there, and that all lines fit into the table
+-- where the call begins; how many lines of blinders are there, and that all lines fit into the table
 abbrev start : tie.After-blinder-lines → tie.Start
 start c = c .before .before .before
 

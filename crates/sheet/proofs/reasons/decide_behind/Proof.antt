@@ -65,7 +65,7 @@ returns-2 c =
 blinder-lines-requires : tie.Need-blinder-lines-requires
 blinder-lines-requires c κs = search needs
 
--- how many lines of blinding numbers are there
+-- how many lines of blinders are there
 found : (c : tie.After-blinder-lines) → Tabled (start (read (c .before .before)) .args .s .now) (start (read (c .before .before)) .args .n) (start (read (c .before .before)) .args .l) (read (c .before .before) .decide-lines .result .blinded) (read (c .before .before) .decide-lines .last .1 .1 .1 .1 .0)
 found c = read (c .before .before) .decide-lines .ensures .1 (c .before .before .before .if1 .left)
 
