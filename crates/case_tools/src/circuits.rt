@@ -122,6 +122,14 @@ pub fn prepared(s: Shape, words: &Words) -> Words {
     changed
 }
 
+// A line's start: a label, which says so where the transcript is blinded.
+pub fn label(text: &[u8], s: Shape) {
+    print::text(text);
+    if s.blinded {
+        print::text(b", blinded");
+    }
+}
+
 pub fn is_accept(v: Judged) -> bool {
     match v {
         Judged::Accept => true,
@@ -297,7 +305,7 @@ fn print_written(xs: &[u32]) {
 }
 
 // The line of `check_opening` for every polynomial at 3, with the mixing number 5.
-fn check(label: &[u8], s: Shape, words: &Words, evaluations: &[u32], quotient: &[u32]) {
+fn check(text: &[u8], s: Shape, words: &Words, evaluations: &[u32], quotient: &[u32]) {
     let k = work(s);
     let mut scratch = buffers::marked();
     let r = opening::check_opening(
@@ -313,7 +321,8 @@ fn check(label: &[u8], s: Shape, words: &Words, evaluations: &[u32], quotient: &
     );
     let answer = r.answer;
     let verdict = r.verdict;
-    print::heading(label, &[s.p, s.n]);
+    label(text, s);
+    print::heading(b",check", &[s.p, s.n]);
     print::answer(answer);
     print_judged(verdict);
     print::left(part(&scratch, 0, k));
@@ -341,14 +350,15 @@ pub fn every_polynomial(s: Shape, words: &Words) {
         &[3, 5],
         first(&mut scratch, k),
     );
-    print::heading(b"every polynomial,open", &[s.p, s.n]);
+    label(b"every polynomial", s);
+    print::heading(b",open", &[s.p, s.n]);
     print::answer(answer);
     print_written(&values);
     print_written(q);
     print::left(part(&scratch, 0, k));
     print::text(b"\n");
-    check(b"every polynomial,check", s, words, &values, q);
+    check(b"every polynomial", s, words, &values, q);
     let last = buffers::mul_add(s.p, 1, 1, values[12]);
     values[12] = last;
-    check(b"last evaluation raised,check", s, words, &values, q);
+    check(b"last evaluation raised", s, words, &values, q);
 }
