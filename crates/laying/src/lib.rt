@@ -85,7 +85,7 @@ fn lay_wires(
             p,
             n,
             powers,
-                witness,
+            witness,
             blinders,
             column,
             &mut out[at..end],
@@ -171,16 +171,7 @@ pub fn lay_rows(
     ensures { λ _. ⌜ ((selectors : List ℕ) → laidRows e p n (lentConstraints n selectors (now (labels .entry))) (lentWitness n (now (witness .entry))) (now (blinders .entry)) beta gamma ≡ some (now (out .exit))) ⌝ }
 {
     let k = circuit::z_start(e, n as usize);
-    lay_wires(
-        e,
-        p,
-        n,
-        powers,
-        witness,
-        blinders,
-        &mut out[..k],
-        spare,
-    );
+    lay_wires(e, p, n, powers, witness, blinders, &mut out[..k], spare);
     lay_z(
         e,
         p,
