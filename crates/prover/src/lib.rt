@@ -168,7 +168,7 @@ fn work(
     transform::slices::clear(scratch);
 }
 
-// A whole call: the decision, and the work where no reason applies.
+// A whole call of either kind: the decision, and the work where no reason applies. The layer above, which has the e of its sheet, makes it too.
 pub fn run(
     e: usize,
     p: u32,
