@@ -11,10 +11,10 @@
 -- Assumes nothing.
 use mathlib.Core.Path.{_≡_, refl, sym, ap, subst, _∙_}
 use mathlib.Core.List.{List, []}
-use Prim.Native.Nat.{ℕ, suc, _+_, _*_, _-_, _^_, _%_, _≤_, _<_}
+use Prim.Native.Nat.{ℕ, suc, _+_, _*_, _^_, _%_, _≤_, _<_}
 use native.Mathlib.Nat.{mod-eq-of-lt}
 use native.Mathlib.Omega.{arith}
-use lib.ListN.{length, getD}
+use lib.ListN.{length}
 use Rattle.algebra.specs.Polynomial.{eval, addP, shift, timesVanishing, reduced, Elements}
 use Rattle.algebra.specs.Congruence.{Cong, cong, _⨾_, cong-add, cong-mul, cong-neg}
 use Rattle.algebra.specs.Tables.{length-tab, all-getD}
@@ -60,10 +60,10 @@ unblinded p n f e =
 -- OF A WITNESS
 
 pub wire-blinder-long : (e c : ℕ) (b : List ℕ) → length (wireBlinder e b c) ≡ 2 * e
-wire-blinder-long e c b = length-tab (λ k. getD b (2 * c + 1 - k) 0) (2 * e)
+wire-blinder-long e c b = length-tab _ (2 * e)
 
 pub z-blinder-long : (e : ℕ) (b : List ℕ) → length (zBlinder e b) ≡ 3 * e
-z-blinder-long e b = length-tab (λ k. getD b (8 - k) 0) (3 * e)
+z-blinder-long e b = length-tab _ (3 * e)
 
 module _ {p n : ℕ} (D : Domain p n) (e : ℕ) (b : List ℕ) where
   pub wires-elements : (v : ℕ → ℕ) (c : ℕ) → Elements p (wireLength e n) (wiresOf e p n v b c)
