@@ -1,6 +1,8 @@
 // A deposit: sheet bytes in, printed bytes out. The number e is 1 where the transcript is blinded, else 0.
 //
 // The public call is `deposit`. It lends the sheet's numbers on from arrays of its own, which have room for 256 rows.
+#![tactic(auto)]
+
 ghost use Rattle.std.specs.Prelude.{◌≡◌, true, ◌*◌, ◌≤◌, length, take, drop};
 ghost use Rattle.field.specs.Fields.{is_current};
 ghost use Rattle.circuit.specs.Buffers.{blinder_count, selectors_length, labels_length, witness_length};

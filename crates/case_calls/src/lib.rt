@@ -2,6 +2,8 @@
 //
 // The letters a to g are its first seven buffers, lent to be read; x, y and z are those that it may write, in their order. `open` asks one lifetime of its
 // first two.
+#![tactic(auto)]
+
 use blocks::lines::is;
 
 // The calls that are lent one number, n.

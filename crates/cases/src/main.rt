@@ -12,6 +12,8 @@
 // the buffers of words that a call only reads: what is changed there gets a line of its own, which no expected output has.
 //
 // A line that begins with # stands outside of the blocks. It says what a case is for, and is written out as it stands.
+#![tactic(auto)]
+
 ghost use Rattle.std.specs.Prelude.{◌≡◌, ◌≤◌, ◌<◌, length};
 
 use blocks::lines;

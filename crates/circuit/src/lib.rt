@@ -1,6 +1,8 @@
 // The circuit: its copy permutation, and the polynomials in lent buffers by number.
 //
 // Public calls: `permutation` and `polynomial`. The other functions are for the layers above, which have checked their numbers.
+#![tactic(auto)]
+
 ghost use Rattle.std.specs.Prelude.{◌≡◌};
 ghost use Rattle.field.specs.Reasons.{answer_of};
 ghost use Rattle.circuit.specs.Reasons.{permutation_reasons};

@@ -1,5 +1,7 @@
 // What is computed and no data: transforms and layouts there and back, circuits made by a rule and proved, openings, products, and counts over all zetas, mixing
 // numbers and gammas. One line a case: a label in words, then words and numbers.
+#![tactic(auto)]
+
 ghost use Rattle.std.specs.Prelude.{◌≤◌};
 
 mod counts;

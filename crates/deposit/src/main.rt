@@ -1,4 +1,6 @@
 // The program `deposit`: reads a sheet from standard input, and prints the text of its deposit.
+#![tactic(auto)]
+
 use streams::Got;
 
 fn main() {

@@ -19,6 +19,8 @@
 //
 // The answer may have any length. The call is made in any case: of its words as many are written as there is room for, and what stands behind
 // them is left as it was.
+#![tactic(auto)]
+
 ghost use Rattle.std.specs.Prelude.{[]};
 ghost use Rattle.algebra.specs.Polynomial.{coef};
 ghost use Rattle.field.specs.Reasons.{Inverts};

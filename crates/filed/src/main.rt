@@ -7,6 +7,8 @@
 // the transcript is accepted, `of`, how many were tried, and the row verdict; the same count where the first coefficient of t is changed, and the row
 // verdict where the last content is; `open` and `check_opening` for every polynomial; and what `prove` or `prove_blinded`, `deposit` and `join` answer where
 // the sheet is taken as a new one.
+#![tactic(auto)]
+
 use blocks::words::{put, within};
 use case_tools::buffers::{Words, part};
 use case_tools::circuits::Shape;

@@ -1,4 +1,6 @@
 // The program `join`: joins the sheets in the two files that its arguments name, and prints the joined sheet, or why there is none.
+#![tactic(auto)]
+
 use streams::Got;
 
 // Prints the joined sheet, or the line of a refusal.

@@ -1,6 +1,8 @@
 // Joining two deposits (document 02): two sheets in, one sheet out.
 //
 // The public call is `join`. It reads each sheet into a table of its lines, and puts the lines of the joined sheet from the two tables.
+#![tactic(auto)]
+
 ghost use Rattle.std.specs.Prelude.{◌≡◌, length};
 ghost use Rattle.joining.specs.Joining.{Joins};
 

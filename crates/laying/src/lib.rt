@@ -1,6 +1,8 @@
 // The first four polynomials of the transcript: the wires a, b, c and the grand product z, laid end to end, and blinded where e is 1; e is 0 or 1.
 //
 // The public function is `lay_rows`, for the prover, which has checked its numbers.
+#![tactic(auto)]
+
 ghost use Rattle.std.specs.Prelude.{◌≡◌, List, ℕ, ◌<◌, length};
 ghost use Rattle.std.proofs.Math.Option.{some, map};
 ghost use Rattle.algebra.specs.Polynomial.{coef, Elements};

@@ -2,6 +2,8 @@
 //
 // Public calls: `open` and `check_opening`. Each decides first, reading only, and then does the work. The transcript may be blinded: its length
 // decides, and e is 1 where it is, else 0. The challenges are the point, then the mixing number m.
+#![tactic(auto)]
+
 ghost use Rattle.std.specs.Prelude.{◌≡◌, length, get_or, replicate};
 ghost use Rattle.circuit.specs.Buffers.{work_length, blinded_by};
 ghost use Rattle.opening.specs.Opening.{evaluationsOf, openingOf};

@@ -2,6 +2,8 @@
 //
 // Public call: `check_point`. It decides first, reading only, and then does the work. F is not multiplied out: its polynomials are evaluated
 // at zeta, and the numbers are combined.
+#![tactic(auto)]
+
 ghost use Rattle.std.specs.Prelude.{◌≡◌, replicate};
 ghost use Rattle.circuit.specs.Buffers.{work_length, blinded_by};
 ghost use Rattle.pointcheck.specs.Promises.{PointChecks, judged_at};

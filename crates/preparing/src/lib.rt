@@ -1,6 +1,8 @@
 // Preparing a circuit: the polynomials of its selectors and of the tags of where the permutation leads.
 //
 // The public call is `prepare`. `work` is for the prover too, which has checked its numbers.
+#![tactic(auto)]
+
 ghost use Rattle.std.specs.Prelude.{◌≡◌, ◌*◌, length, replicate};
 ghost use Rattle.algebra.specs.Polynomial.{Elements};
 ghost use Rattle.field.specs.Reasons.{answer_of};

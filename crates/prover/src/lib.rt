@@ -2,6 +2,8 @@
 //
 // The public calls are `prove` and `prove_blinded`. Both decide first, reading only, and then lay the polynomials, each through a part of the transcript. The
 // number e of the inner functions is 1 for `prove_blinded`, and 0 for `prove`, which is lent no blinders.
+#![tactic(auto)]
+
 ghost use Rattle.std.specs.Prelude.{◌≡◌, List, [], ◌++◌, ℕ, ◌≤◌, length, get_or, take, drop, replicate};
 ghost use Rattle.std.proofs.Math.Option.{some, map};
 ghost use Rattle.algebra.specs.Polynomial.{reduced};

@@ -1,6 +1,8 @@
 // F and its quotient by X^n - 1, on slices. The number e is 1 where the wires and z are blinded, else 0.
 //
 // The functions for the layers above, which have checked their numbers, are `fill` and `divide`.
+#![tactic(auto)]
+
 ghost use Rattle.std.specs.Prelude.{◌≡◌};
 ghost use Rattle.algebra.specs.Polynomial.{reduced};
 ghost use Rattle.circuit.specs.Buffers.{f_length};

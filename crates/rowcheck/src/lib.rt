@@ -1,6 +1,8 @@
 // The row check: the three identities, row by row, in document 01's order.
 //
 // The public call is `check_rows`.
+#![tactic(auto)]
+
 ghost use Rattle.std.specs.Prelude.{◌≡◌, get_or};
 ghost use Rattle.circuit.specs.Circuit.{lent_constraints, lent_public, lent_witness};
 ghost use Rattle.protocol.specs.Protocol.{row_verdict};

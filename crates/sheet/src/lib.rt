@@ -2,6 +2,8 @@
 //
 // The public call is `read`. The layers above that take new sheets begin with `decide_prime`; one that reads a sheet for a call of its own goes on with `decide`. Lines
 // count from 0 in the code, as in the definitions.
+#![tactic(auto)]
+
 ghost use Rattle.std.specs.Prelude.{◌≡◌, cond, length};
 ghost use Rattle.sheet.specs.Promises.{Reads};
 

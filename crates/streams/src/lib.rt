@@ -1,5 +1,7 @@
 // What the programs read, and what they print. A read or a write that fails is told on standard error, with the system's word for it, by the
 // function that meets it: its caller has only to stop.
+#![tactic(auto)]
+
 ghost use Rattle.io.specs.Counts.{IsPrefixLen};
 ghost use Rattle.streams.specs.Got.{bytes_of};
 

@@ -1,6 +1,8 @@
 // Numbers and lines in a text of bytes: reading them here, writing them in `writing`.
 //
 // The functions are for the layers above, which have checked the text's length.
+#![tactic(auto)]
+
 ghost use Rattle.std.specs.Prelude.{◌≡◌, true, not, ◌&&◌, ◌||◌, ◌+◌, ◌-◌, ◌≤◌, ◌<◌, min, eqb, ltb, length, get_or};
 ghost use Rattle.algebra.specs.Lists.{tab};
 ghost use Rattle.text.specs.Text.{is_digit, digits_end, value_of, is_number_at, number_at, field_at, closing, is_line_at};

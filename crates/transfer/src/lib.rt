@@ -2,6 +2,8 @@
 // by row: for callers who hold buffers in the former.
 //
 // The public calls are `to_rows` and `to_columns`.
+#![tactic(auto)]
+
 ghost use Rattle.std.specs.Prelude.{◌≡◌, ◌≤◌, length};
 ghost use Rattle.field.specs.Reasons.{answer_of};
 ghost use Rattle.circuit.specs.Buffers.{witness_length};

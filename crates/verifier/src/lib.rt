@@ -1,1 +1,2 @@
 // Theory only: specs/ holds the theorem. There is no code.
+#![tactic(auto)]

@@ -2,6 +2,8 @@
 // buffers, and of the witness.
 //
 // The call is `decide`. Nothing is written to a lent buffer.
+#![tactic(auto)]
+
 ghost use Rattle.std.specs.Prelude.{◌≡◌, [], ◌≤◌, get_or};
 ghost use Rattle.field.specs.Reasons.{answer_of};
 ghost use Rattle.circuit.specs.Circuit.{lent_constraints, lent_public, lent_witness};

@@ -5,21 +5,21 @@ use borrow.Author.Rules.{rules}
 use Rattle.field.proofs.reasons.decide_at.Statement.{statement}
 use Rattle.field.proofs.reasons.decide_at.Tie as tie
 
-cast-refused : tie.Need-overflow-cast-refused
+cast-refused : tie.Need-overflow_cast-at
 cast-refused c = search rules
 
 refused-requires : tie.Need-refused-requires
 refused-requires c κs = search rules
 
-returns : tie.Need-returns
-returns c = c.refused.ensures ∙ rw (lt-ltb _ _ c.before.if1.true)
+returns : tie.Need-returns-then-at-count
+returns c = c.refused.ensures ∙ rw (lt-ltb _ _ c.before.if-at-count.true)
 
 accepted-requires : tie.Need-accepted-requires
 accepted-requires c κs = search rules
 
-returns-2 : tie.Need-returns-2
-returns-2 c = c.accepted.ensures ∙ rw (le-ltb _ _ c.before.if1.false)
+returns-2 : tie.Need-returns
+returns-2 c = c.accepted.ensures ∙ rw (le-ltb _ _ c.before.if-at-count.false)
 
-pub decide-at-spec : {M : Type 1} → statement M
-decide-at-spec =
+pub decide_at_spec : {M : Type 1} → statement M
+decide_at_spec =
     tie.close (tie.spec cast-refused refused-requires returns accepted-requires returns-2)

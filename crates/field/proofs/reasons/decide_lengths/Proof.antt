@@ -10,22 +10,22 @@ use borrow.Author.Rules.{rules}
 use Rattle.field.proofs.reasons.decide_lengths.Statement.{statement}
 use Rattle.field.proofs.reasons.decide_lengths.Tie as tie
 
-first-other-requires : tie.Need-first-other-requires
+first-other-requires : tie.Need-first_other-place-requires
 first-other-requires c κs = search rules
 
-add-refused : tie.Need-overflow-add-refused
+add-refused : tie.Need-overflow_add-place
 add-refused c = search rules
 
-cast-refused : tie.Need-overflow-cast-refused
+cast-refused : tie.Need-overflow_cast-place
 cast-refused c = search rules
 
 refused-requires : tie.Need-refused-requires
 refused-requires c κs = search rules
 
-returns : tie.Need-returns
+returns : tie.Need-returns-then-place-due
 returns c =
     let a = c.before.before.before.before.before.args in
-    let place = c.before.before.first-other.ensures in
+    let place = c.before.before.first_other-place.ensures in
     c.refused.ensures
     ∙ rw (lt-ltb (first_other a.long.now a.due.now) (length a.due.now) (omega (arith, place)))
     (ap (λ (d : ℕ). record { number = 6; detail = d }) (add-one _ ∙ ap suc place))
@@ -33,14 +33,14 @@ returns c =
 accepted-requires : tie.Need-accepted-requires
 accepted-requires c κs = search rules
 
-returns-2 : tie.Need-returns-2
+returns-2 : tie.Need-returns
 returns-2 c =
     let a = c.before.before.before.before.before.args in
-    let place = c.before.before.first-other.ensures in
+    let place = c.before.before.first_other-place.ensures in
     c.accepted.ensures ∙ rw (le-ltb (first_other a.long.now a.due.now) (length a.due.now) (omega (arith, place)))
 
-pub decide-lengths-spec : {M : Type 1} → statement M
-decide-lengths-spec =
+pub decide_lengths_spec : {M : Type 1} → statement M
+decide_lengths_spec =
     tie.close
     (tie.spec
     first-other-requires

@@ -10,10 +10,10 @@ use borrow.Author.Rules.{rules}
 use Rattle.field.proofs.reasons.decide_lent.Statement.{statement}
 use Rattle.field.proofs.reasons.decide_lent.Tie as tie
 
-greatest-rows-requires : tie.Need-greatest-rows-requires
+greatest-rows-requires : tie.Need-greatest_rows-requires
 greatest-rows-requires c κs = search rules
 
-decide-shape-requires : tie.Need-decide-shape-requires
+decide-shape-requires : tie.Need-decide_shape-shape-requires
 decide-shape-requires c κs = search rules
 
 -- the two parts, and that the first is decided
@@ -23,26 +23,26 @@ first s = shape_reasons s.args.p s.args.n s.args.l (greatest_rows s.args.p)
 abbrev second : tie.Start → List Reason
 second s = bad_lengths s.args.long.now s.args.due.now ∷ []
 
-decided : (c : tie.After-decide-shape) → c.decide-shape.result ≡ answer_of (first c.before.before.before.before)
+decided : (c : tie.After-decide_shape-shape) → c.decide_shape-shape.result ≡ answer_of (first c.before.before.before.before)
 decided c =
     let a = c.before.before.before.before.args in
-    c.decide-shape.ensures ∙ ap (λ (most : ℕ). answer_of (shape_reasons a.p a.n a.l most)) c.before.greatest-rows.ensures
+    c.decide_shape-shape.ensures ∙ ap (λ (most : ℕ). answer_of (shape_reasons a.p a.n a.l most)) c.before.greatest_rows.ensures
 
-returns : tie.Need-returns
+returns : tie.Need-returns-then-number-ne0
 returns c =
     let s = c.before.before.before.before.before in
-    refused_first (first s) (second s) (shape_numbers s.args.p s.args.n s.args.l (greatest_rows s.args.p)) _ (decided c.before) c.if1.true
+    refused_first (first s) (second s) (shape_numbers s.args.p s.args.n s.args.l (greatest_rows s.args.p)) _ (decided c.before) c.if-number-ne0.true
 
-decide-lengths-requires : tie.Need-decide-lengths-requires
+decide-lengths-requires : tie.Need-decide_lengths-requires
 decide-lengths-requires c κs = search rules
 
-returns-2 : tie.Need-returns-2
+returns-2 : tie.Need-returns
 returns-2 c =
     let s = c.before.before.before.before.before.before in
-    refused_later (first s) (second s) (shape_numbers s.args.p s.args.n s.args.l (greatest_rows s.args.p)) _ _ (decided c.before.before) c.before.if1.false c.decide-lengths.ensures
+    refused_later (first s) (second s) (shape_numbers s.args.p s.args.n s.args.l (greatest_rows s.args.p)) _ _ (decided c.before.before) c.before.if-number-ne0.false c.decide_lengths.ensures
 
-pub decide-lent-spec : {M : Type 1} → statement M
-decide-lent-spec =
+pub decide_lent_spec : {M : Type 1} → statement M
+decide_lent_spec =
     tie.close
     (tie.spec
     greatest-rows-requires

@@ -19,47 +19,47 @@ use Rattle.field.proofs.reasons.first_other.Tie as tie
 abbrev differs : List ℕ → List ℕ → ℕ → Bool
 differs long due k = not (eqb (get_or long k 0) (get_or due k 0))
 
-abbrev invariant-loop : tie.invariant-loop
+abbrev invariant-loop : tie.invariant-loop-i
 invariant-loop long due i₀ i = (i ≤ length due) × (first_other long due ≡ first (differs long due) i (length due - i))
 
-abbrev decreases-loop : tie.decreases-loop
+abbrev decreases-loop : tie.decreases-loop-i
 decreases-loop long due i₀ i = length due - i
 
-loop-holds : tie.Need-loop-init invariant-loop decreases-loop
+loop-holds : tie.Need-loop-i-init invariant-loop decreases-loop
 unfolding first_other
 loop-holds c = (search rules, rw sub-zero)
 
-mul-if1 : tie.Need-overflow-mul-if1 invariant-loop decreases-loop
+mul-if1 : tie.Need-offset_bounds-long-i invariant-loop decreases-loop
 mul-if1 c = search rules
 
-shared-slice-read-if1 : tie.Need-shared-slice-read-if1 invariant-loop decreases-loop
+shared-slice-read-if1 : tie.Need-bounds-long-i invariant-loop decreases-loop
 shared-slice-read-if1 c = search rules
 
-mul-if1-2 : tie.Need-overflow-mul-if1-2 invariant-loop decreases-loop
+mul-if1-2 : tie.Need-offset_bounds-due-i invariant-loop decreases-loop
 mul-if1-2 c = search rules
 
-shared-slice-read-if1-2 : tie.Need-shared-slice-read-if1-2 invariant-loop decreases-loop
+shared-slice-read-if1-2 : tie.Need-bounds-due-i invariant-loop decreases-loop
 shared-slice-read-if1-2 c = search rules
 
-returns : tie.Need-returns invariant-loop decreases-loop
+returns : tie.Need-returns-then-long-i invariant-loop decreases-loop
 returns c =
-    sym (c.before.before.before.before.loop.invariant.1 ∙ first_stop _ _ _ c.before.before.before.loop-test.true (rw (ne_eqb _ _ c.if1.true)))
+    sym (c.before.before.before.before.loop-i.invariant.1 ∙ first_stop _ _ _ c.before.before.before.loop-i-test.true (rw (ne_eqb _ _ c.if-long-i.true)))
 
-add-i : tie.Need-overflow-add-i invariant-loop decreases-loop
+add-i : tie.Need-overflow_add-i invariant-loop decreases-loop
 add-i c = search rules
 
-loop-less : tie.Need-loop-smaller invariant-loop decreases-loop
+loop-less : tie.Need-loop-i-smaller invariant-loop decreases-loop
 loop-less c = search rules
 
-loop-again : tie.Need-loop-preserved invariant-loop decreases-loop
+loop-again : tie.Need-loop-i-preserved invariant-loop decreases-loop
 loop-again c =
-    (search rules, c.before.before.before.before.loop.invariant.1 ∙ first_skip _ _ _ c.before.before.before.loop-test.true (rw (eq-eqb _ _ c.if1.false)))
+    (search rules, c.before.before.before.before.loop-i.invariant.1 ∙ first_skip _ _ _ c.before.before.before.loop-i-test.true (rw (eq-eqb _ _ c.if-long-i.false)))
 
-returns-2 : tie.Need-returns-2 invariant-loop decreases-loop
-returns-2 c = sym (c.before.loop.invariant.1 ∙ first_end _ _ _ c.loop-test.false)
+returns-2 : tie.Need-returns invariant-loop decreases-loop
+returns-2 c = sym (c.before.loop-i.invariant.1 ∙ first_end _ _ _ c.loop-i-test.false)
 
-pub first-other-spec : {M : Type 1} → statement M
-first-other-spec =
+pub first_other_spec : {M : Type 1} → statement M
+first_other_spec =
     tie.close
     (tie.spec
     invariant-loop
