@@ -7,6 +7,7 @@ use super::lengths;
 use super::lengths::{PREPARED_LAST, T_NUMBER, WIRE_LAST, WIRE_NUMBER, Z_NUMBER};
 
 // n is a number of rows that one of the three primes has.
+#[tactic(auto, unfolding(crate::specs::Promises::any_rows))]
 pub fn any_rows(n: u32) -> bool
     ensures { result ≡ any_rows n }
 {

@@ -28,6 +28,7 @@ fn decide_public_rows(n: u32, l: u32, selectors: &[u32]) -> Answer
 }
 
 // A block length of n rows: a power of two that divides n. The count of ones tells a power of two.
+#[tactic(auto, unfolding(crate::specs::Reasons::is_block))]
 fn is_block(n: u32, block: u32) -> bool
     ensures { result ≡ is_block n block }
 {

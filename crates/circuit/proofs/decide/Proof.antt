@@ -19,42 +19,42 @@ long s = length s.args.labels.now ∷ length s.args.positions.now ∷ []
 abbrev rest : tie.Start → List Reason
 rest s = bad_label s.args.n s.args.labels.now ∷ []
 
-abbrev start : tie.After-decide-lent → tie.Start
+abbrev start : tie.After-decide_lent-answer → tie.Start
 start c = c.before.before.before.before.before.before
 
-permutation-requires : tie.Need-permutation-requires
+permutation-requires : tie.Need-permutation-due-requires
 permutation-requires c κs = search rules
 
-slice-aggregate-decide-lent : tie.Need-slice-aggregate-decide-lent
+slice-aggregate-decide-lent : tie.Need-slice_bounds-decide_lent-end
 slice-aggregate-decide-lent c = search rules
 
-slice-aggregate-decide-lent-2 : tie.Need-slice-aggregate-decide-lent-2
+slice-aggregate-decide-lent-2 : tie.Need-slice_bounds-decide_lent-end-2
 slice-aggregate-decide-lent-2 c = search rules
 
-decide-lent-requires : tie.Need-decide-lent-requires
+decide-lent-requires : tie.Need-decide_lent-answer-requires
 decide-lent-requires c κs = search rules
 
-returns : tie.Need-returns
+returns : tie.Need-returns-then-number-ne0
 returns c =
     let s = start c.before in
-    lent_refused s.args.p s.args.n 0 (long s) (permutation_due s.args.n) (rest s) c.before.before.before.before.permutation.ensures c.before.decide-lent.ensures c.if1.true
+    lent_refused s.args.p s.args.n 0 (long s) (permutation_due s.args.n) (rest s) c.before.before.before.before.permutation-due.ensures c.before.decide_lent-answer.ensures c.if-number-ne0.true
 
-decide-labels-requires : tie.Need-decide-labels-requires
+decide-labels-requires : tie.Need-decide_labels-requires
 decide-labels-requires c κs =
     let s = start c.before in
-    let lent = lent_known s.args.p s.args.n 0 (long s) (permutation_due s.args.n) (rest s) c.before.before.before.before.permutation.ensures c.before.decide-lent.ensures c.if1.false refl in
+    let lent = lent_known s.args.p s.args.n 0 (long s) (permutation_due s.args.n) (rest s) c.before.before.before.before.permutation-due.ensures c.before.decide_lent-answer.ensures c.if-number-ne0.false refl in
     let labels : length s.args.labels.now ≡ 3 * s.args.n = cc lent.lengths in
     let small = (rows-power _ _ lent.admissible.rows).small in
     (small, omega arith)
 
-returns-2 : tie.Need-returns-2
+returns-2 : tie.Need-returns
 returns-2 c =
     let d = c.before.before in
     let s = start d in
-    lent_later s.args.p s.args.n 0 (long s) (permutation_due s.args.n) (rest s) d.before.before.before.permutation.ensures d.decide-lent.ensures c.before.if1.false c.decide-labels.ensures
+    lent_later s.args.p s.args.n 0 (long s) (permutation_due s.args.n) (rest s) d.before.before.before.permutation-due.ensures d.decide_lent-answer.ensures c.before.if-number-ne0.false c.decide_labels.ensures
 
-pub decide-spec : {M : Type 1} → statement M
-decide-spec =
+pub decide_spec : {M : Type 1} → statement M
+decide_spec =
     tie.close
     (tie.spec
     permutation-requires

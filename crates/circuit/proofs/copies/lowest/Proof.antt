@@ -9,58 +9,58 @@ use Rattle.circuit.proofs.Passes.{has_slot, Lowest, lowest_none, lowest_more, lo
 use Rattle.circuit.proofs.copies.lowest.Statement.{statement}
 use Rattle.circuit.proofs.copies.lowest.Tie as tie
 
-abbrev invariant-loop : tie.invariant-loop
+abbrev invariant-loop : tie.invariant-loop-k
 invariant-loop labels slots₀ k₀ slots k = (k ≤ length labels) × (length slots ≡ length slots₀) × Lowest labels k slots
 
-abbrev decreases-loop : tie.decreases-loop
+abbrev decreases-loop : tie.decreases-loop-k
 decreases-loop labels slots₀ k₀ slots k = k
 
-loop-holds : tie.Need-loop-init invariant-loop decreases-loop
+loop-holds : tie.Need-loop-k-init invariant-loop decreases-loop
 loop-holds c = (search rules, search rules, lowest_none _ _)
 
-sub-k : tie.Need-overflow-sub-k invariant-loop decreases-loop
+sub-k : tie.Need-overflow_sub-k invariant-loop decreases-loop
 sub-k c = search rules
 
-mul_at : tie.Need-overflow-mul-at invariant-loop decreases-loop
+mul_at : tie.Need-offset_bounds-labels-k invariant-loop decreases-loop
 mul_at c = search rules
 
-shared-slice-read-at : tie.Need-shared-slice-read-at invariant-loop decreases-loop
+shared-slice-read-at : tie.Need-bounds-labels-k invariant-loop decreases-loop
 shared-slice-read-at c = search rules
 
 -- the label that a turn reads has a slot
-fits : (c : tie.In-loop invariant-loop decreases-loop) → get_or c.before.before.args.labels.now (c.before.loop.k - 1) 0 < length c.before.loop.slots
-fits c = has_slot c.before.before.requires.0 c.before.loop.slots (c.before.loop.k - 1) (omega arith) (omega arith)
+fits : (c : tie.In-loop-k invariant-loop decreases-loop) → get_or c.before.before.args.labels.now (c.before.loop-k.k - 1) 0 < length c.before.loop-k.slots
+fits c = has_slot c.before.before.requires.0 c.before.loop-k.slots (c.before.loop-k.k - 1) (omega arith) (omega arith)
 
-cast-at : tie.Need-overflow-cast-at invariant-loop decreases-loop
-cast-at c = omega (arith, c.shared-slice-known.given (c.before.before.loop.k - 1))
+cast-at : tie.Need-overflow_cast-at invariant-loop decreases-loop
+cast-at c = omega (arith, c.shared_slice_known-1.given (c.before.before.loop-k.k - 1))
 
-cast-slots : tie.Need-overflow-cast-slots invariant-loop decreases-loop
+cast-slots : tie.Need-overflow_cast-slots invariant-loop decreases-loop
 cast-slots c = search rules
 
-mul-slots : tie.Need-overflow-mul-slots invariant-loop decreases-loop
+mul-slots : tie.Need-offset_bounds-slots-at invariant-loop decreases-loop
 mul-slots c = omega (arith, fits c.before)
 
-slice-write-slots : tie.Need-slice-write-slots invariant-loop decreases-loop
+slice-write-slots : tie.Need-bounds-slots-at invariant-loop decreases-loop
 slice-write-slots c = fits c.before
 
-loop-less : tie.Need-loop-smaller invariant-loop decreases-loop
+loop-less : tie.Need-loop-k-smaller invariant-loop decreases-loop
 loop-less c = search rules
 
-loop-again : tie.Need-loop-preserved invariant-loop decreases-loop
+loop-again : tie.Need-loop-k-preserved invariant-loop decreases-loop
 loop-again c =
-    let inv = c.before.before.loop.invariant in
+    let inv = c.before.before.loop-k.invariant in
     (omega arith, simp length-set (omega arith), lowest_more _ _ _ _ (omega arith) (omega arith) (fits c.before) inv.2)
 
-same_length : tie.Need-same-length invariant-loop decreases-loop
+same_length : tie.Need-shape_of-slots invariant-loop decreases-loop
 same_length c = search rules
 
 returns : tie.Need-returns invariant-loop decreases-loop
 returns c =
-    let done : c.before.loop.k ≡ 0 = omega arith in
-    lowest_all _ _ (rw done at c.before.loop.invariant.2)
+    let done : c.before.loop-k.k ≡ 0 = omega arith in
+    lowest_all _ _ (rw done at c.before.loop-k.invariant.2)
 
-pub lowest-spec : {M : Type 1} → statement M
-lowest-spec =
+pub lowest_spec : {M : Type 1} → statement M
+lowest_spec =
     tie.close
     (tie.spec
     invariant-loop

@@ -10,22 +10,22 @@ use Rattle.circuit.specs.Reasons.{prove_due}
 use Rattle.circuit.proofs.due.prove.Statement.{statement}
 use Rattle.circuit.proofs.due.prove.Tie as tie
 
-selectors-length-requires : tie.Need-selectors-length-requires
+selectors-length-requires : tie.Need-selectors_length-requires
 selectors-length-requires c κs = search rules
 
-labels-length-requires : tie.Need-labels-length-requires
+labels-length-requires : tie.Need-labels_length-requires
 labels-length-requires c κs = search rules
 
-witness-length-requires : tie.Need-witness-length-requires
+witness-length-requires : tie.Need-witness_length-requires
 witness-length-requires c κs = search rules
 
-transcript-length-requires : tie.Need-transcript-length-requires
+transcript-length-requires : tie.Need-transcript_length-requires
 transcript-length-requires c κs = search rules
 
-work-length-requires : tie.Need-work-length-requires
+work-length-requires : tie.Need-work_length-scratch-requires
 work-length-requires c κs = search rules
 
-behind-requires : tie.Need-behind-requires
+behind-requires : tie.Need-behind-next-requires
 behind-requires c κs = search rules
 
 -- the table, by cases on e
@@ -39,14 +39,14 @@ due-of (suc (suc e)) n l a b c d next scratch h i j k m w u = absurd (omega arit
 returns : tie.Need-returns
 returns c =
     let w = c.before.before.before.before.before in (
-      due-of w.before.args.e w.before.args.n w.before.args.l _ _ _ _ _ _ w.before.requires.0 c.before.before.before.selectors-length.ensures
-          c.before.before.labels_length.ensures c.before.witness-length.ensures c.transcript-length.ensures w.work-length.ensures
-          c.before.before.before.before.behind.ensures,
+      due-of w.before.args.e w.before.args.n w.before.args.l _ _ _ _ _ _ w.before.requires.0 c.before.before.before.selectors_length.ensures
+          c.before.before.labels_length.ensures c.before.witness_length.ensures c.transcript_length.ensures w.work_length-scratch.ensures
+          c.before.before.before.before.behind-next.ensures,
       refl,
     )
 
-pub prove-spec : {M : Type 1} → statement M
-prove-spec =
+pub prove_spec : {M : Type 1} → statement M
+prove_spec =
     tie.close
     (tie.spec
     work-length-requires

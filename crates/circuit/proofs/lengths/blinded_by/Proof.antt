@@ -8,17 +8,17 @@ use Rattle.circuit.specs.Buffers.{blinded_by}
 use Rattle.circuit.proofs.lengths.blinded_by.Statement.{statement}
 use Rattle.circuit.proofs.lengths.blinded_by.Tie as tie
 
-transcript-length-requires : tie.Need-transcript-length-requires
+transcript-length-requires : tie.Need-transcript_length-requires
 transcript-length-requires c κs = search rules
 
-returns : tie.Need-returns
+returns : tie.Need-returns-then-transcript-transcript_length
 unfolding blinded_by
-returns c = (ap (λ (b : Bool). cond b 1 0) (sym (eq-eqb _ _ (c.if1.true ∙ c.before.transcript-length.ensures))), omega arith)
+returns c = (ap (λ (b : Bool). cond b 1 0) (sym (eq-eqb _ _ (c.if-transcript-transcript_length.true ∙ c.before.transcript_length.ensures))), omega arith)
 
-returns-2 : tie.Need-returns-2
+returns-2 : tie.Need-returns
 unfolding blinded_by
 returns-2 c =
-    (ap (λ (b : Bool). cond b 1 0) (sym (ne_eqb _ _ (λ u. c.if1.false (u ∙ sym c.before.transcript-length.ensures)))), omega arith)
+    (ap (λ (b : Bool). cond b 1 0) (sym (ne_eqb _ _ (λ u. c.if-transcript-transcript_length.false (u ∙ sym c.before.transcript_length.ensures)))), omega arith)
 
-pub blinded-by-spec : {M : Type 1} → statement M
-blinded-by-spec = tie.close (tie.spec transcript-length-requires returns returns-2)
+pub blinded_by_spec : {M : Type 1} → statement M
+blinded_by_spec = tie.close (tie.spec transcript-length-requires returns returns-2)

@@ -11,41 +11,41 @@ use borrow.Author.Rules.{rules}
 use Rattle.circuit.proofs.publics.fill_publics.Statement.{statement}
 use Rattle.circuit.proofs.publics.fill_publics.Tie as tie
 
-abbrev invariant-loop : tie.invariant-loop
+abbrev invariant-loop : tie.invariant-loop-i
 invariant-loop publics out₀ i₀ out i = (i ≤ length out₀) × (out ≡ tab (lent_public publics) i ++ drop i out₀) × (length out ≡ length out₀)
 
-abbrev decreases-loop : tie.decreases-loop
+abbrev decreases-loop : tie.decreases-loop-i
 decreases-loop publics out₀ i₀ out i = length out₀ - i
 
-loop-holds : tie.Need-loop-init invariant-loop decreases-loop
+loop-holds : tie.Need-loop-i-init invariant-loop decreases-loop
 loop-holds c = (search rules, wrote_none _ _, search rules)
 
-public-of-requires : tie.Need-public-of-requires invariant-loop decreases-loop
+public-of-requires : tie.Need-public_of-requires invariant-loop decreases-loop
 public-of-requires c κs = search rules
 
-mul-out : tie.Need-overflow-mul-out invariant-loop decreases-loop
+mul-out : tie.Need-offset_bounds-out-i invariant-loop decreases-loop
 mul-out c = search rules
 
-slice-write-out : tie.Need-slice-write-out invariant-loop decreases-loop
+slice-write-out : tie.Need-bounds-out-i invariant-loop decreases-loop
 slice-write-out c = search rules
 
-add-i : tie.Need-overflow-add-i invariant-loop decreases-loop
+add-i : tie.Need-overflow_add-i invariant-loop decreases-loop
 add-i c = search rules
 
-loop-less : tie.Need-loop-smaller invariant-loop decreases-loop
+loop-less : tie.Need-loop-i-smaller invariant-loop decreases-loop
 loop-less c = search rules
 
-loop-again : tie.Need-loop-preserved invariant-loop decreases-loop
-loop-again c = (omega arith, wrote_more _ _ _ _ _ (omega arith) c.before.before.loop.invariant.1 c.public-of.ensures, simp length-set (omega arith))
+loop-again : tie.Need-loop-i-preserved invariant-loop decreases-loop
+loop-again c = (omega arith, wrote_more _ _ _ _ _ (omega arith) c.before.before.loop-i.invariant.1 c.public_of.ensures, simp length-set (omega arith))
 
-same_length : tie.Need-same-length invariant-loop decreases-loop
+same_length : tie.Need-shape_of-out invariant-loop decreases-loop
 same_length c = search rules
 
 returns : tie.Need-returns invariant-loop decreases-loop
-returns c = wrote_all _ _ _ _ (omega arith) c.before.loop.invariant.0 c.before.loop.invariant.1
+returns c = wrote_all _ _ _ _ (omega arith) c.before.loop-i.invariant.0 c.before.loop-i.invariant.1
 
-pub fill-publics-spec : {M : Type 1} → statement M
-fill-publics-spec =
+pub fill_publics_spec : {M : Type 1} → statement M
+fill_publics_spec =
     tie.close
     (tie.spec
     invariant-loop

@@ -29,63 +29,63 @@ long-four s = simp length-append (omega arith)
 long-five : (s : tie.Start) → length (four s) + length s.args.last.now ≡ length (five s)
 long-five s = simp length-append (omega arith)
 
-abbrev start : tie.After-decide-lent → tie.Start
+abbrev start : tie.After-decide_lent-answer → tie.Start
 start c = c.before.before.before.before.before.before.before.before.before
 
 -- what is known past the first part
-known : (c : tie.Else1) → Lent (start c.before).args.p (start c.before).args.n (start c.before).args.l (start c.before).args.long.now (start c.before).args.due.now
+known : (c : tie.Else-number-ne0) → Lent (start c.before).args.p (start c.before).args.n (start c.before).args.l (start c.before).args.long.now (start c.before).args.due.now
 known c =
     let s = start c.before in
-    lent_known s.args.p s.args.n s.args.l s.args.long.now s.args.due.now (rest s) refl c.before.decide-lent.ensures c.if1.false s.pre.0.0
+    lent_known s.args.p s.args.n s.args.l s.args.long.now s.args.due.now (rest s) refl c.before.decide_lent-answer.ensures c.if-number-ne0.false s.requires.0.0
 
-few : (c : tie.Else1) → ((start c.before).args.n ≤ 1024) × ((start c.before).args.l ≤ (start c.before).args.n)
-few c = ((rows-power _ _ (known c).admissible.rows).small, (known c).publics-few)
+few : (c : tie.Else-number-ne0) → ((start c.before).args.n ≤ 1024) × ((start c.before).args.l ≤ (start c.before).args.n)
+few c = ((rows-power _ _ (known c).admissible.rows).small, (known c).publics_few)
 
-decide-lent-requires : tie.Need-decide-lent-requires
+decide-lent-requires : tie.Need-decide_lent-answer-requires
 decide-lent-requires c κs = search rules
 
-returns : tie.Need-returns
+returns : tie.Need-returns-then-number-ne0
 returns c =
     let s = start c.before in
-    lent_refused s.args.p s.args.n s.args.l s.args.long.now s.args.due.now (rest s) refl c.before.decide-lent.ensures c.if1.true
+    lent_refused s.args.p s.args.n s.args.l s.args.long.now s.args.due.now (rest s) refl c.before.decide_lent-answer.ensures c.if-number-ne0.true
 
-first-of-four-requires : tie.Need-first-of-four-requires
-first-of-four-requires c κs = omega (arith, ((start c.before).requires.1 (known c)).numbers-few)
+first-of-four-requires : tie.Need-first_of_four-at-requires
+first-of-four-requires c κs = omega (arith, ((start c.before).requires.1 (known c)).numbers_few)
 
-add-four : tie.Need-overflow-add-four
+add-four : tie.Need-overflow_add-four
 add-four c = search rules
 
-add-four-2 : tie.Need-overflow-add-four-2
+add-four-2 : tie.Need-overflow_add-four-2
 add-four-2 c = search rules
 
-add-four-3 : tie.Need-overflow-add-four-3
+add-four-3 : tie.Need-overflow_add-four-3
 add-four-3 c = search rules
 
-then-above-requires : tie.Need-then-above-requires
-then-above-requires c κs = omega (arith, ((start c.before.before).requires.1 (known c.before)).numbers-few)
+then-above-requires : tie.Need-then_above-place-requires
+then-above-requires c κs = omega (arith, ((start c.before.before).requires.1 (known c.before)).numbers_few)
 
-add-decide-numbers : tie.Need-overflow-add-decide-numbers
+add-decide-numbers : tie.Need-overflow_add-four-4
 add-decide-numbers c = search rules
 
-decide-numbers-requires : tie.Need-decide-numbers-requires
+decide-numbers-requires : tie.Need-decide_numbers-requires
 decide-numbers-requires c κs =
     let e = c.before.before in
     let countable = (start e.before).requires.1 (known e) in
-    (((few e).0, (few e).1, countable.numbers-few), (countable.selectors-long, countable.labels-few))
+    (((few e).0, (few e).1, countable.numbers_few), (countable.selectors_long, countable.labels_few))
 
-returns-2 : tie.Need-returns-2
+returns-2 : tie.Need-returns
 returns-2 c =
     let d = c.before.before.before.before in
     let s = start d in
-    let place : c.before.then-above.result ≡ first_above s.args.p (five s) =
-    further s.args.p (four s) s.args.last.now _ _ _ c.before.before.first-of-four.ensures (long-four s) c.before.then-above.ensures
+    let place : c.before.then_above-place.result ≡ first_above s.args.p (five s) =
+    further s.args.p (four s) s.args.last.now _ _ _ c.before.before.first_of_four-at.ensures (long-four s) c.before.then_above-place.ensures
     ∙ ap (first_above s.args.p) (simp append_assoc) in
-    lent_later s.args.p s.args.n s.args.l s.args.long.now s.args.due.now (rest s) refl d.decide-lent.ensures c.before.before.before.if1.false
-    (c.decide-numbers.ensures
+    lent_later s.args.p s.args.n s.args.l s.args.long.now s.args.due.now (rest s) refl d.decide_lent-answer.ensures c.before.before.before.if-number-ne0.false
+    (c.decide_numbers.ensures
     ∙ ap₂ (λ (at count : ℕ). answer_of (reason_at 7 at count ∷ circuit_reasons s.args.n s.args.l s.args.selectors.now s.args.labels.now)) place (ap (λ (k : ℕ). k + length s.args.last.now) (long-four s) ∙ long-five s))
 
-pub decide-filled-spec : {M : Type 1} → statement M
-decide-filled-spec =
+pub decide_filled_spec : {M : Type 1} → statement M
+decide_filled_spec =
     tie.close
     (tie.spec
     decide-lent-requires

@@ -8,20 +8,20 @@ use borrow.Author.Rules.{rules}
 use Rattle.circuit.proofs.reasons.decide_labels.Statement.{statement}
 use Rattle.circuit.proofs.reasons.decide_labels.Tie as tie
 
-mul-first-above : tie.Need-overflow-mul-first-above
+mul-first-above : tie.Need-overflow_mul-n
 mul-first-above c = search rules
 
-first-above-requires : tie.Need-first-above-requires
+first-above-requires : tie.Need-first_above-requires
 first-above-requires c κs = search rules
 
-decide-at-requires : tie.Need-decide-at-requires
+decide-at-requires : tie.Need-decide_at-requires
 decide-at-requires c κs = search rules
 
 returns : tie.Need-returns
 returns c =
     let labels = c.before.before.before.args.labels.now in
-    c.decide-at.ensures ∙ ap (λ (at : ℕ). answer_of (reason_at 8 at (length labels) ∷ [])) c.before.first_above.ensures
+    c.decide_at.ensures ∙ ap (λ (at : ℕ). answer_of (reason_at 8 at (length labels) ∷ [])) c.before.first_above.ensures
 
-pub decide-labels-spec : {M : Type 1} → statement M
-decide-labels-spec =
+pub decide_labels_spec : {M : Type 1} → statement M
+decide_labels_spec =
     tie.close (tie.spec mul-first-above first-above-requires decide-at-requires returns)

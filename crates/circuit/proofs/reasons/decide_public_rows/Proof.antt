@@ -9,7 +9,7 @@ use Rattle.circuit.specs.Selectors.{unbound_lent}
 use Rattle.circuit.proofs.reasons.decide_public_rows.Statement.{statement}
 use Rattle.circuit.proofs.reasons.decide_public_rows.Tie as tie
 
-unbound-row-requires : tie.Need-unbound-row-requires
+unbound-row-requires : tie.Need-unbound_row-row-requires
 unbound-row-requires c κs =
     let s = c.before in
     record {
@@ -18,12 +18,12 @@ unbound-row-requires c κs =
       room = λ i h. omega (arith, s.requires.1, s.requires.2);
     }
 
-decide-at-requires : tie.Need-decide-at-requires
+decide-at-requires : tie.Need-decide_at-requires
 decide-at-requires c κs = search rules
 
 returns : tie.Need-returns
 returns c = λ labels.
-    c.decide-at.ensures ∙ ap (λ (at : ℕ). answer_of (reason_at 14 at c.before.before.before.args.l ∷ [])) (c.before.unbound-row.ensures ∙ unbound_lent _ _ _ labels)
+    c.decide_at.ensures ∙ ap (λ (at : ℕ). answer_of (reason_at 14 at c.before.before.before.args.l ∷ [])) (c.before.unbound_row-row.ensures ∙ unbound_lent _ _ _ labels)
 
-pub decide-public-rows-spec : {M : Type 1} → statement M
-decide-public-rows-spec = tie.close (tie.spec unbound-row-requires decide-at-requires returns)
+pub decide_public_rows_spec : {M : Type 1} → statement M
+decide_public_rows_spec = tie.close (tie.spec unbound-row-requires decide-at-requires returns)

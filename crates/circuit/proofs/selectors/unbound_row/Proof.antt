@@ -31,57 +31,57 @@ tested words start step apart i at r b e f g = ap (λ (a : ℕ). not (is_public_
 onward : (start step i at : ℕ) → at ≡ start + i * step → at + step ≡ start + (i + 1) * step
 onward start step i at e = omega (arith, e, ap (λ (m : ℕ). m * step) (add-one i) ∙ suc-mul i step)
 
-abbrev invariant-loop : tie.invariant-loop
+abbrev invariant-loop : tie.invariant-loop-i
 invariant-loop words start step apart l i₀ at₀ i at =
     (i ≤ l) × (at ≡ start + i * step) × (unbound_in words start step apart l ≡ first (unbound words start step apart) i (l - i))
 
-abbrev decreases-loop : tie.decreases-loop
+abbrev decreases-loop : tie.decreases-loop-i
 decreases-loop words start step apart l i₀ at₀ i at = l - i
 
-loop-holds : tie.Need-loop-init invariant-loop decreases-loop
+loop-holds : tie.Need-loop-i-init invariant-loop decreases-loop
 loop-holds c = (search rules, omega arith, begins _ _ _ _ _)
 
-is-public-at-requires : tie.Need-is-public-at-requires invariant-loop decreases-loop
+is-public-at-requires : tie.Need-is_public_at-requires invariant-loop decreases-loop
 is-public-at-requires c κs =
     let pre = c.before.before.before.requires in
-    (pre.short, omega (arith, c.before.loop.invariant.1, pre.room _ c.loop-test.true))
+    (pre.short, omega (arith, c.before.loop-i.invariant.1, pre.room _ c.loop-i-test.true))
 
-returns : tie.Need-returns invariant-loop decreases-loop
+returns : tie.Need-returns-then-not-is_public_at invariant-loop decreases-loop
 returns c =
-    let inv = c.before.before.before.loop.invariant in
+    let inv = c.before.before.before.loop-i.invariant in
     let a = c.before.before.before.before.before.args in
     sym
     (inv.2
-    ∙ first_stop (unbound a.words.now a.start a.step a.apart) _ _ c.before.before.loop-test.true
-    (tested a.words.now a.start a.step a.apart _ _ _ _ inv.1 c.before.is-public-at.ensures c.if1.true))
+    ∙ first_stop (unbound a.words.now a.start a.step a.apart) _ _ c.before.before.loop-i-test.true
+    (tested a.words.now a.start a.step a.apart _ _ _ _ inv.1 c.before.is_public_at.ensures c.if-not-is_public_at.true-raw))
 
-add_at : tie.Need-overflow-add-at invariant-loop decreases-loop
+add_at : tie.Need-overflow_add-at invariant-loop decreases-loop
 add_at c =
     let pre = c.before.before.before.before.before.requires in
-    omega (arith, pre.short, pre.near, c.before.before.before.loop.invariant.1, pre.room _ c.before.before.loop-test.true)
+    omega (arith, pre.short, pre.near, c.before.before.before.loop-i.invariant.1, pre.room _ c.before.before.loop-i-test.true)
 
-add-i : tie.Need-overflow-add-i invariant-loop decreases-loop
+add-i : tie.Need-overflow_add-i invariant-loop decreases-loop
 add-i c = search rules
 
-loop-less : tie.Need-loop-smaller invariant-loop decreases-loop
+loop-less : tie.Need-loop-i-smaller invariant-loop decreases-loop
 loop-less c = search rules
 
-loop-again : tie.Need-loop-preserved invariant-loop decreases-loop
+loop-again : tie.Need-loop-i-preserved invariant-loop decreases-loop
 loop-again c =
-    let inv = c.before.before.before.loop.invariant in
+    let inv = c.before.before.before.loop-i.invariant in
     let a = c.before.before.before.before.before.args in (
       omega arith,
       onward _ _ _ _ inv.1,
       inv.2
-          ∙ first_skip (unbound a.words.now a.start a.step a.apart) _ _ c.before.before.loop-test.true
-          (tested a.words.now a.start a.step a.apart _ _ _ _ inv.1 c.before.is-public-at.ensures c.if1.false),
+          ∙ first_skip (unbound a.words.now a.start a.step a.apart) _ _ c.before.before.loop-i-test.true
+          (tested a.words.now a.start a.step a.apart _ _ _ _ inv.1 c.before.is_public_at.ensures c.if-not-is_public_at.false-raw),
     )
 
-returns-2 : tie.Need-returns-2 invariant-loop decreases-loop
-returns-2 c = sym (c.before.loop.invariant.2 ∙ first_end _ _ _ c.loop-test.false)
+returns-2 : tie.Need-returns invariant-loop decreases-loop
+returns-2 c = sym (c.before.loop-i.invariant.2 ∙ first_end _ _ _ c.loop-i-test.false)
 
-pub unbound-row-spec : {M : Type 1} → statement M
-unbound-row-spec =
+pub unbound_row_spec : {M : Type 1} → statement M
+unbound_row_spec =
     tie.close
     (tie.spec
     invariant-loop

@@ -8,16 +8,16 @@ use Rattle.circuit.specs.Witness.{place_of}
 use Rattle.circuit.proofs.witness.wire_value.Statement.{statement}
 use Rattle.circuit.proofs.witness.wire_value.Tie as tie
 
-mul-result : tie.Need-overflow-mul-result
+mul-result : tie.Need-overflow_mul-result
 mul-result c = search rules
 
-add-result : tie.Need-overflow-add-result
+add-result : tie.Need-overflow_add-result
 add-result c = search rules
 
-mul-result-2 : tie.Need-overflow-mul-result-2
+mul-result-2 : tie.Need-offset_bounds-witness-row
 mul-result-2 c = search rules
 
-shared-slice-read-result : tie.Need-shared-slice-read-result
+shared-slice-read-result : tie.Need-bounds-witness-row
 shared-slice-read-result c = search rules
 
 returns : tie.Need-returns
@@ -26,6 +26,6 @@ returns c =
     let a = c.before.args in
     ap (λ (j : ℕ). get_or a.witness.now j 0) (sym (place_of a.n a.column a.row c.before.requires.2))
 
-pub wire-value-spec : {M : Type 1} → statement M
-wire-value-spec =
+pub wire_value_spec : {M : Type 1} → statement M
+wire_value_spec =
     tie.close (tie.spec mul-result add-result mul-result-2 shared-slice-read-result returns)
