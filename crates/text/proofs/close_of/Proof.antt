@@ -6,14 +6,14 @@ use borrow.Author.Rules.{rules}
 use Rattle.text.proofs.close_of.Statement.{statement}
 use Rattle.text.proofs.close_of.Tie as tie
 
-add-if1 : tie.Need-overflow-add-if1
+add-if1 : tie.Need-overflow_add-j
 add-if1 c = search rules
 
-returns : tie.Need-returns
-returns c = (rw (eq-eqb _ _ (sym (add-one _) ∙ c.if1.true)), search rules)
+returns : tie.Need-returns-then-j-k
+returns c = (rw (eq-eqb _ _ (sym (add-one _) ∙ c.if-j-k.true)), search rules)
 
-returns-2 : tie.Need-returns-2
-returns-2 c = (rw (ne_eqb _ _ (λ e. c.if1.false (add-one _ ∙ e))), search rules)
+returns-2 : tie.Need-returns
+returns-2 c = (rw (ne_eqb _ _ (λ e. c.if-j-k.false (add-one _ ∙ e))), search rules)
 
-pub close-of-spec : {M : Type 1} → statement M
-close-of-spec = tie.close (tie.spec add-if1 returns returns-2)
+pub close_of_spec : {M : Type 1} → statement M
+close_of_spec = tie.close (tie.spec add-if1 returns returns-2)

@@ -11,14 +11,14 @@ use Rattle.text.proofs.Reading.{stands_inside}
 use Rattle.text.proofs.closed.Statement.{statement}
 use Rattle.text.proofs.closed.Tie as tie
 
-number-requires : tie.Need-number-requires
+number-requires : tie.Need-number-n-requires
 number-requires c κs = search rules
 
-returns : tie.Need-returns
+returns : tie.Need-returns-then-not-n
 returns c =
     let a = c.before.before.before.before.args in
-    let n = c.before.before.number.ensures in
-    let bad = not-true _ c.if1.true in (
+    let n = c.before.before.number-n.ensures in
+    let bad = not-true _ c.if-not-n.true in (
       bad ∙ sym (ap (λ (t : Bool). t && eqb (get_or a.s.now (digits_end a.s.now a.at) 0) a.close) (sym n.0 ∙ bad)),
       (
         n.1.0,
@@ -29,11 +29,11 @@ returns c =
 stands-requires : tie.Need-stands-requires
 stands-requires c κs = search rules
 
-returns-2 : tie.Need-returns-2
+returns-2 : tie.Need-returns
 returns-2 c =
     let a = c.before.before.before.before.before.args in
-    let n = c.before.before.before.number.ensures in
-    let good = not-false _ c.before.if1.false in (
+    let n = c.before.before.before.number-n.ensures in
+    let good = not-false _ c.before.if-not-n.false in (
       c.stands.ensures
           ∙ ap (λ (k : ℕ). true && eqb (get_or a.s.now k 0) a.close) n.1.0
           ∙ ap (λ (t : Bool). t && eqb (get_or a.s.now (digits_end a.s.now a.at) 0) a.close) (sym good ∙ n.0),
@@ -43,5 +43,5 @@ returns-2 c =
       ),
     )
 
-pub closed-spec : {M : Type 1} → statement M
-closed-spec = tie.close (tie.spec number-requires returns stands-requires returns-2)
+pub closed_spec : {M : Type 1} → statement M
+closed_spec = tie.close (tie.spec number-requires returns stands-requires returns-2)

@@ -8,46 +8,46 @@ use Rattle.text.proofs.Reading.{end_low, end_high, in_form_is, in_form_small, in
 use Rattle.text.proofs.number.Statement.{statement}
 use Rattle.text.proofs.number.Tie as tie
 
-digits-end-requires : tie.Need-digits-end-requires
+digits-end-requires : tie.Need-digits_end-end-requires
 digits-end-requires c κs = search rules
 
-sub-k : tie.Need-overflow-sub-k
+sub-k : tie.Need-overflow_sub-k
 sub-k c = let a = c.before.before.args in omega (arith, end_low a.s.now a.at)
 
-value-requires : tie.Need-value-requires
+value-requires : tie.Need-value-v-requires
 value-requires c κs =
     let a = c.before.before.args in omega (arith, end_low a.s.now a.at, end_high a.s.now a.at c.before.before.requires.0)
 
-in-form-requires : tie.Need-in-form-requires
+in-form-requires : tie.Need-in_form-requires
 in-form-requires c κs =
     let a = c.before.before.before.args in
     omega (arith, end_low a.s.now a.at, end_high a.s.now a.at c.before.before.before.requires.0)
 
-cast-t7 : tie.Need-overflow-cast-t7
+cast-t7 : tie.Need-overflow_cast-result
 cast-t7 c =
     let a = c.before.before.before.before.before.args in
-    omega (arith, in_form_small a.s.now a.at (c.before.before.before.digits-end.result - a.at) c.before.before.value.result _ c.before.in-form.ensures c.if1.true)
+    omega (arith, in_form_small a.s.now a.at (c.before.before.before.digits_end-end.result - a.at) c.before.before.value-v.result _ c.before.in_form.ensures c.if-in_form.true)
 
-returns : tie.Need-returns
+returns : tie.Need-returns-then-in_form
 returns c =
     let a = c.before.before.before.before.before.args in
-    let end = c.before.before.before.digits-end.ensures in
-    let capped = c.before.before.value.ensures in
-    let small = in_form_small a.s.now a.at (c.before.before.before.digits-end.result - a.at) c.before.before.value.result _ c.before.in-form.ensures c.if1.true in (
-      sym c.if1.true ∙ in_form_is a.s.now a.at _ _ _ _ end refl capped c.before.in-form.ensures,
+    let end = c.before.before.before.digits_end-end.ensures in
+    let capped = c.before.before.value-v.ensures in
+    let small = in_form_small a.s.now a.at (c.before.before.before.digits_end-end.result - a.at) c.before.before.value-v.result _ c.before.in_form.ensures c.if-in_form.true in (
+      sym c.if-in_form.true ∙ in_form_is a.s.now a.at _ _ _ _ end refl capped c.before.in_form.ensures,
       (end, λ e. in_form_value a.s.now a.at _ _ _ end refl capped small),
     )
 
-returns-2 : tie.Need-returns-2
+returns-2 : tie.Need-returns
 returns-2 c =
     let a = c.before.before.before.before.before.args in
-    let end = c.before.before.before.digits-end.ensures in
-    let capped = c.before.before.value.ensures in (
-      sym c.if1.false ∙ in_form_is a.s.now a.at _ _ _ _ end refl capped c.before.in-form.ensures,
+    let end = c.before.before.before.digits_end-end.ensures in
+    let capped = c.before.before.value-v.ensures in (
+      sym c.if-in_form.false ∙ in_form_is a.s.now a.at _ _ _ _ end refl capped c.before.in_form.ensures,
       (end, λ e. absurd (false≢true e)),
     )
 
-pub number-spec : {M : Type 1} → statement M
-number-spec =
+pub number_spec : {M : Type 1} → statement M
+number_spec =
     tie.close
     (tie.spec digits-end-requires sub-k value-requires in-form-requires cast-t7 returns returns-2)

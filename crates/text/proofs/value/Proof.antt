@@ -13,52 +13,52 @@ use Rattle.text.proofs.value.Tie as tie
 further : (w v d r : ℕ) → v ≡ min w 4294967296 → r ≡ min (10 * v + d) 4294967296 → r ≡ min (10 * w + d) 4294967296
 further w v d r e f = omega arith
 
-abbrev invariant-loop : tie.invariant-loop
+abbrev invariant-loop : tie.invariant-loop-i
 invariant-loop s at k v₀ i₀ v i = (i ≤ k) × (v ≡ min (value_of s at i) 4294967296)
 
-abbrev decreases-loop : tie.decreases-loop
+abbrev decreases-loop : tie.decreases-loop-i
 decreases-loop s at k v₀ i₀ v i = k - i
 
-loop-holds : tie.Need-loop-init invariant-loop decreases-loop
+loop-holds : tie.Need-loop-i-init invariant-loop decreases-loop
 unfolding value_of
 loop-holds c = (search rules, refl)
 
-mul-capped : tie.Need-overflow-mul-capped invariant-loop decreases-loop
+mul-capped : tie.Need-overflow_mul-v invariant-loop decreases-loop
 mul-capped c = search rules
 
-add-digit : tie.Need-overflow-add-digit invariant-loop decreases-loop
+add-digit : tie.Need-overflow_add-at invariant-loop decreases-loop
 add-digit c = search rules
 
-shared-slice-read-digit : tie.Need-shared-slice-read-digit invariant-loop decreases-loop
+shared-slice-read-digit : tie.Need-bounds-s-at invariant-loop decreases-loop
 shared-slice-read-digit c = search rules
 
 digit-requires : tie.Need-digit-requires invariant-loop decreases-loop
 digit-requires c κs = search rules
 
-add-capped : tie.Need-overflow-add-capped invariant-loop decreases-loop
+add-capped : tie.Need-overflow_add-v invariant-loop decreases-loop
 add-capped c = search rules
 
-capped-requires : tie.Need-capped-requires invariant-loop decreases-loop
+capped-requires : tie.Need-capped-v-requires invariant-loop decreases-loop
 capped-requires c κs = search rules
 
-add-i : tie.Need-overflow-add-i invariant-loop decreases-loop
+add-i : tie.Need-overflow_add-i invariant-loop decreases-loop
 add-i c = search rules
 
-loop-less : tie.Need-loop-smaller invariant-loop decreases-loop
+loop-less : tie.Need-loop-i-smaller invariant-loop decreases-loop
 loop-less c = search rules
 
-loop-again : tie.Need-loop-preserved invariant-loop decreases-loop
+loop-again : tie.Need-loop-i-preserved invariant-loop decreases-loop
 unfolding value_of
 loop-again c = (
   search rules,
   rw (add-one, ← c.before.digit.ensures.0)
-      (further _ _ _ _ c.before.before.before.before.loop.invariant.1 c.capped.ensures),
+      (further _ _ _ _ c.before.before.before.before.loop-i.invariant.1 c.capped-v.ensures),
 )
 
 returns : tie.Need-returns invariant-loop decreases-loop
 returns c =
-    let all : c.before.loop.i ≡ c.before.before.before.args.k = omega arith in
-    c.before.loop.invariant.1 ∙ ap (λ (n : ℕ). min (value_of c.before.before.before.args.s.now c.before.before.before.args.at n) 4294967296) all
+    let all : c.before.loop-i.i ≡ c.before.before.before.args.k = omega arith in
+    c.before.loop-i.invariant.1 ∙ ap (λ (n : ℕ). min (value_of c.before.before.before.args.s.now c.before.before.before.args.at n) 4294967296) all
 
 pub value_spec : {M : Type 1} → statement M
 value_spec =

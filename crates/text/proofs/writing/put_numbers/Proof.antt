@@ -16,35 +16,35 @@ use Rattle.text.proofs.writing.put_numbers.Tie as tie
 others : (vs : List ℕ) → take (length vs - 1) (drop 1 vs) ≡ drop 1 vs
 others vs = let e : length vs - 1 ≡ length (drop 1 vs) = omega (arith, length-drop 1 vs) in ap (λ (k : ℕ). take k (drop 1 vs)) e ∙ take-length (drop 1 vs)
 
-shared-slice-read-put-digits : tie.Need-shared-slice-read-put-digits
+shared-slice-read-put-digits : tie.Need-bounds-vs-0
 shared-slice-read-put-digits c = search rules
 
-put-digits-requires : tie.Need-put-digits-requires
+put-digits-requires : tie.Need-put_digits-second-requires
 put-digits-requires c κs = search rules
 
-mul-put-fields : tie.Need-overflow-mul-put-fields
+mul-put-fields : tie.Need-offset_bounds-vs-one
 mul-put-fields c = search rules
 
-sub-put-fields : tie.Need-overflow-sub-put-fields
+sub-put-fields : tie.Need-slice_bounds-put_fields-count
 sub-put-fields c = search rules
 
-part-put-fields-start : tie.Need-slice-bounds-put-fields-start
+part-put-fields-start : tie.Need-slice_bounds-put_fields-start
 part-put-fields-start c = search rules
 
-part-put-fields-end : tie.Need-slice-bounds-put-fields-end
+part-put-fields-end : tie.Need-slice_bounds-put_fields-end
 part-put-fields-end c = search rules
 
-put-fields-requires : tie.Need-put-fields-requires
+put-fields-requires : tie.Need-put_fields-third-requires
 put-fields-requires c κs =
-    let digits = c.before.before.before.before.put-digits in
+    let digits = c.before.before.before.before.put_digits-second in
     let s = c.before.before.before.before.before.before.before.before.before in
     let vs = s.args.vs.now in
     omega (arith, s.requires, digits.ensures.place, digits.auto, decimal_few 10 (get_or vs 0 0), ap length (others vs), length-drop 1 vs)
 
-put-byte-requires : tie.Need-put-byte-requires
+put-byte-requires : tie.Need-put_byte-requires
 put-byte-requires c κs =
-    let fields = c.before.before.before.put-fields in
-    let digits = c.before.before.before.before.before.before.before.before.put-digits in
+    let fields = c.before.before.before.put_fields-third in
+    let digits = c.before.before.before.before.before.before.before.before.put_digits-second in
     let s = c.before.before.before.before.before.before.before.before.before.before.before.before.before in
     let vs = s.args.vs.now in
     omega (
@@ -60,22 +60,22 @@ put-byte-requires c κs =
       length-drop 1 vs,
     )
 
-same_length : tie.Need-same-length
+same_length : tie.Need-shape_of-out
 same_length c = search rules
 
 returns : tie.Need-returns
 returns c =
-    let digits = c.before.before.before.before.before.before.before.before.before.before.before.put-digits in
-    let fields = c.before.before.before.before.before.before.put-fields in
+    let digits = c.before.before.before.before.before.before.before.before.before.before.before.put_digits-second in
+    let fields = c.before.before.before.before.before.before.put_fields-third in
     let byte = c.before.before.put_byte in
     let s = c.before.before.before.before.before.before.before.before.before.before.before.before.before.before.before.before in
     let vs = s.args.vs.now in
-    subst (λ (b : List ℕ). Puts s.args.at b s.args.out.now byte.result byte.new.1.0)
+    subst (λ (b : List ℕ). Puts s.args.at b s.args.out.now byte.result byte.new.out)
     (ap (λ (us : List ℕ). decimal (get_or vs 0 0) ++ (fields_text us ++ (10 ∷ []))) (others vs) ∙ sym (numbers_parts vs (omega (arith, s.requires))))
     (puts_both digits.ensures (puts_both fields.ensures byte.ensures))
 
-pub put-numbers-spec : {M : Type 1} → statement M
-put-numbers-spec =
+pub put_numbers_spec : {M : Type 1} → statement M
+put_numbers_spec =
     tie.close
     (tie.spec
     shared-slice-read-put-digits
