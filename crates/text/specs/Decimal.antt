@@ -2,10 +2,10 @@
 --
 -- Written s at d        the bytes d stand in the text s from `at` on
 -- written_in            they do where s is what comes before, d, and what follows
--- written-front, written_back   of two runs of bytes, one behind the other
--- decimal-small, decimal-more   one digit; one digit more
+-- written_front, written_back   of two runs of bytes, one behind the other
+-- decimal_small, decimal_more   one digit; one digit more
 -- decimal_digits        every byte of a decimal is a digit
--- decimal-some, decimal-few     it has at least one byte, and no more than it may
+-- decimal_some, decimal_few     it has at least one byte, and no more than it may
 -- decimal_lead          it starts with no zero, unless the number is 0
 -- decimal_value         it writes the number
 -- value_written         what bytes write does not depend on where they stand

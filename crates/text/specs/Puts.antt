@@ -3,15 +3,15 @@
 -- field_bytes                  the bytes of a number on a line, with that which stands before or behind it: at most ten digits, and one
 -- Puts at bytes out r out'    the bytes stand behind the first `at` bytes of the buffer, and r is where the next byte goes; what stands from r
 --                             on is not told
--- puts_none, puts-byte, puts-both   no bytes; one byte; one run and then another
+-- puts_none, puts_byte, puts_both   no bytes; one byte; one run and then another
 -- word_turn                   a word, one byte more
--- digits-none, digits_last, digits_more   the last digits of a number: none of them; one digit; those before the last one, and that one
+-- digits_none, digits_last, digits_more   the last digits of a number: none of them; one digit; those before the last one, and that one
 -- length_fields               fields have at most field_bytes bytes each
 -- length_line                 a line that begins with a word has the word, at most field_bytes bytes for each number, and byte 10
 -- length_numbers              a line of numbers has at most field_bytes bytes for each
 -- numbers_parts               a line of numbers: the first in decimal, the fields of the others, and byte 10
--- fields-append, fields-more  the fields of two lists of numbers, and of one number more
--- fields-none, fields-turn    no fields are put; one field more is
+-- fields_append, fields_more  the fields of two lists of numbers, and of one number more
+-- fields_none, fields_turn    no fields are put; one field more is
 -- puts_fits                   what is put is within the buffer
 -- puts_cleared                a text that is put at the buffer's start, and zeros for all that stands behind it
 --

@@ -1,11 +1,11 @@
 -- What is written is read back: a line of numbers below 2^32, wherever it stands in a text, is a line, and its numbers are those.
 --
--- number-ends, number-back, is_number   a number in decimal, with a byte behind it that is no digit: where it ends, what it is, that it is one
+-- number_ends, number_back, is_number   a number in decimal, with a byte behind it that is no digit: where it ends, what it is, that it is one
 -- is_first_field        it is the first field of a line, where that byte closes the field
--- field-later, is-field-later   a line's later fields are the fields of the line without its first one
+-- field_later, is_field_later   a line's later fields are the fields of the line without its first one
 -- ReadBack s at vs      the line vs is read back from `at` on
--- read-back             it is, where it stands there
--- line-is, line-ends, line-numbers   THE THEOREM: in a text that is what comes before, the line, and what follows, the line is one, ends
+-- read_back             it is, where it stands there
+-- line_is, line_ends, line_numbers   THE THEOREM: in a text that is what comes before, the line, and what follows, the line is one, ends
 --                       where its bytes end, and its numbers are those that were written
 --
 -- Assumes nothing.
