@@ -2,3 +2,4 @@
 pub mod SliceLaws
 pub mod ProductLaws
 pub mod SplitLaws
+pub mod Sizes
