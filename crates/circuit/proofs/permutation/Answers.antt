@@ -4,14 +4,20 @@ use borrow.Author.Tests.{eq-eqb, ne_eqb}
 use Rattle.circuit.proofs.Deciding.{Checked, checked}
 use borrow.Author.Rules.{rules}
 use Rattle.circuit.proofs.permutation.Goals as goal
+use Rattle.circuit.proofs.permutation.Goals.{Then-number-eq0}
+
+-- where the number is 0
+taken : (c : Then-number-eq0) → Checked c.args.n c.args.labels.now c.args.positions.now
+taken c =
+    checked _ _ _ _ (sym (ap (λ a. a.number) c.decide-answer.ensures) ∙ c.if-number-eq0.true)
 
 pub fill_permutation-requires : goal.fill_permutation-requires
 fill_permutation-requires c =
-    (((let it : Checked c.args.n c.args.labels.now c.args.positions.now = checked _ _ _ _ (sym (ap (λ a. a.number) c.decide-answer.ensures) ∙ c.if-number-eq0.true) in it)).right, ((let it : Checked c.args.n c.args.labels.now c.args.positions.now = checked _ _ _ _ (sym (ap (λ a. a.number) c.decide-answer.ensures) ∙ c.if-number-eq0.true) in it)).positions_length)
+    ((taken (goal.at.fill_permutation-requires c).Then-number-eq0).right, (taken (goal.at.fill_permutation-requires c).Then-number-eq0).positions_length)
 
 pub returns-then-number-eq0 : goal.returns-then-number-eq0
 returns-then-number-eq0 c =
-    let long = ((let it : Checked c.args.n c.args.labels.now c.args.positions.now = checked _ _ _ _ (sym (ap (λ a. a.number) c.decide-answer.ensures) ∙ c.if-number-eq0.true) in it)).labels_length_lem in
+    let long = (taken (goal.at.returns-then-number-eq0 c).Then-number-eq0).labels_length_lem in
     record {
       answer = c.decide-answer.ensures;
       written = rw (eq-eqb _ _ c.if-number-eq0.true, ← long) c.fill_permutation.ensures;
