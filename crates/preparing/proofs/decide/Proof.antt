@@ -20,53 +20,53 @@ long s = length s.args.selectors.now ∷ length s.args.labels.now ∷ length s.a
 abbrev rest : tie.Start → List Reason
 rest s = number_reasons s.args.p s.args.n s.args.l s.args.selectors.now s.args.selectors.now s.args.labels.now
 
-abbrev start : tie.After-decide-lent → tie.Start
+abbrev start : tie.After-decide_lent-answer → tie.Start
 start c = c.before.before.before.before.before.before.before.before
 
-lent : (c : tie.Else1) → Lent (start c.before).args.p (start c.before).args.n (start c.before).args.l (long (start c.before)) (prepare_due (start c.before).args.n)
+lent : (c : tie.Else-number-ne0) → Lent (start c.before).args.p (start c.before).args.n (start c.before).args.l (long (start c.before)) (prepare_due (start c.before).args.n)
 lent c =
     let s = start c.before in
-    lent_known s.args.p s.args.n s.args.l (long s) (prepare_due s.args.n) (rest s) c.before.before.before.before.prepare.ensures c.before.decide-lent.ensures c.if1.false refl
+    lent_known s.args.p s.args.n s.args.l (long s) (prepare_due s.args.n) (rest s) c.before.before.before.before.prepare-due.ensures c.before.decide_lent-answer.ensures c.if-number-ne0.false refl
 
-prepare-requires : tie.Need-prepare-requires
+prepare-requires : tie.Need-prepare-due-requires
 prepare-requires c κs = search rules
 
-slice-aggregate-decide-lent : tie.Need-slice-aggregate-decide-lent
+slice-aggregate-decide-lent : tie.Need-slice_bounds-decide_lent-end
 slice-aggregate-decide-lent c = search rules
 
-slice-aggregate-decide-lent-2 : tie.Need-slice-aggregate-decide-lent-2
+slice-aggregate-decide-lent-2 : tie.Need-slice_bounds-decide_lent-end-2
 slice-aggregate-decide-lent-2 c = search rules
 
-decide-lent-requires : tie.Need-decide-lent-requires
+decide-lent-requires : tie.Need-decide_lent-answer-requires
 decide-lent-requires c κs = search rules
 
-returns : tie.Need-returns
+returns : tie.Need-returns-then-number-ne0
 returns c =
     let s = start c.before in
-    lent_refused s.args.p s.args.n s.args.l (long s) (prepare_due s.args.n) (rest s) c.before.before.before.before.prepare.ensures c.before.decide-lent.ensures c.if1.true
+    lent_refused s.args.p s.args.n s.args.l (long s) (prepare_due s.args.n) (rest s) c.before.before.before.before.prepare-due.ensures c.before.decide_lent-answer.ensures c.if-number-ne0.true
 
-first-above-requires : tie.Need-first-above-requires
+first-above-requires : tie.Need-first_above-at-requires
 first-above-requires c κs = search rules
 
-decide-numbers-requires : tie.Need-decide-numbers-requires
+decide-numbers-requires : tie.Need-decide_numbers-requires
 decide-numbers-requires c κs =
     let s = start c.before.before in
     let L = lent c.before in
     let a : length s.args.selectors.now ≡ selectors_length s.args.n = cc L.lengths in
     let b : length s.args.labels.now ≡ 3 * s.args.n = cc L.lengths in
     let small = (rows-power _ _ L.admissible.rows).small in
-    ((small, omega (arith, L.publics-few), omega arith), (a, omega arith))
+    ((small, omega (arith, L.publics_few), omega arith), (a, omega arith))
 
-returns-2 : tie.Need-returns-2
+returns-2 : tie.Need-returns
 returns-2 c =
     let d = c.before.before.before in
     let s = start d in
-    lent_later s.args.p s.args.n s.args.l (long s) (prepare_due s.args.n) (rest s) d.before.before.before.prepare.ensures d.decide-lent.ensures c.before.before.if1.false
-    (c.decide-numbers.ensures
-    ∙ ap (λ (at : ℕ). answer_of (reason_at 7 at (length s.args.selectors.now) ∷ circuit_reasons s.args.n s.args.l s.args.selectors.now s.args.labels.now)) c.before.first_above.ensures)
+    lent_later s.args.p s.args.n s.args.l (long s) (prepare_due s.args.n) (rest s) d.before.before.before.prepare-due.ensures d.decide_lent-answer.ensures c.before.before.if-number-ne0.false
+    (c.decide_numbers.ensures
+    ∙ ap (λ (at : ℕ). answer_of (reason_at 7 at (length s.args.selectors.now) ∷ circuit_reasons s.args.n s.args.l s.args.selectors.now s.args.labels.now)) c.before.first_above-at.ensures)
 
-pub decide-spec : {M : Type 1} → statement M
-decide-spec =
+pub decide_spec : {M : Type 1} → statement M
+decide_spec =
     tie.close
     (tie.spec
     prepare-requires
