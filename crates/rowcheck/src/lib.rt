@@ -15,7 +15,7 @@ mod reasons;
 mod verdicts;
 
 // The identity that fails: the gate; z = 1 at row 0; the step from a row to the next.
-#[derive(Drop)]
+#[derive(Clone, Copy)]
 pub enum Identity {
     Gate,
     Start,
@@ -23,7 +23,7 @@ pub enum Identity {
 }
 
 // No verdict (the call is refused); every row holds; the first identity that fails, with its row.
-#[derive(Drop)]
+#[derive(Clone, Copy)]
 pub enum Verdict {
     None,
     Pass,

@@ -6,21 +6,21 @@ use Rattle.rowcheck.proofs.Decided.{checked}
 use Rattle.rowcheck.proofs.check_rows.Statement.{statement}
 use Rattle.rowcheck.proofs.check_rows.Tie as tie
 
-decide-requires : tie.Need-decide-requires
+decide-requires : tie.Need-decide-answer-requires
 decide-requires c κs = search rules
 
-work-requires : tie.Need-work-requires
+work-requires : tie.Need-work-verdict-requires
 work-requires c κs =
     let a = c.before.before.before.before.before.before.before.before.args in
     checked a.p a.n a.l a.selectors.now a.labels.now a.witness.now a.publics.now a.z.now a.challenges.now
-    (sym (ap (λ r. r.number) c.before.decide.ensures) ∙ c.if1.true)
+    (sym (ap (λ r. r.number) c.before.decide-answer.ensures) ∙ c.if-number-eq0.true)
 
-returns : tie.Need-returns
+returns : tie.Need-returns-then-number-eq0
 returns c =
-    record { answer = c.before.before.decide.ensures; verdict = rw (eq-eqb _ _ c.before.if1.true) c.work.ensures }
+    record { answer = c.before.before.decide-answer.ensures; verdict = rw (eq-eqb _ _ c.before.if-number-eq0.true) c.work-verdict.ensures }
 
-returns-2 : tie.Need-returns-2
-returns-2 c = record { answer = c.before.decide.ensures; verdict = rw (ne_eqb _ _ c.if1.false) }
+returns-2 : tie.Need-returns
+returns-2 c = record { answer = c.before.decide-answer.ensures; verdict = rw (ne_eqb _ _ c.if-number-eq0.false) }
 
-pub check-rows-spec : {M : Type 1} → statement M
-check-rows-spec = tie.close (tie.spec decide-requires work-requires returns returns-2)
+pub check_rows_spec : {M : Type 1} → statement M
+check_rows_spec = tie.close (tie.spec decide-requires work-requires returns returns-2)

@@ -29,43 +29,43 @@ first-right : (s : tie.Start) → All (λ r. r.number ≢ 0) (first s)
 first-right s = buffer_numbers s.args.e s.args.p s.args.n s.args.l s.args.selectors.now s.args.labels.now s.args.witness.now s.args.publics.now s.args.transcript.now s.args.challenges.now s.args.blinders.now s.args.scratch.now
 
 -- where the call begins
-abbrev start : tie.After-decide-prime → tie.Start
+abbrev start : tie.After-decide_prime-prime → tie.Start
 start c = c.before.before.before.before.before.before.before.before.before
 
 -- where the prime may be proved with, the answer is that of the two parts
-current : (c : tie.Else1) {b : Answer} → b ≡ answer_of (first (start c.before) ++ second (start c.before))
+current : (c : tie.Else-number-ne0) {b : Answer} → b ≡ answer_of (first (start c.before) ++ second (start c.before))
     → b ≡ answer_of (current_only (start c.before).args.p (first (start c.before) ++ second (start c.before)))
 current c u =
     let s = start c.before in
-    u ∙ sym (current_answer s.args.p (prime_current s.args.p _ c.before.decide-prime.ensures c.if1.false) (first s ++ second s))
+    u ∙ sym (current_answer s.args.p (prime_current s.args.p _ c.before.decide_prime-prime.ensures c.if-number-ne0.false) (first s ++ second s))
 
-decide-prime-requires : tie.Need-decide-prime-requires
+decide-prime-requires : tie.Need-decide_prime-prime-requires
 decide-prime-requires c κs = search rules
 
-returns : tie.Need-returns
+returns : tie.Need-returns-then-number-ne0
 returns c =
     let s = start c.before in
-    current_refused s.args.p (first s ++ second s) refl _ c.before.decide-prime.ensures c.if1.true
+    current_refused s.args.p (first s ++ second s) refl _ c.before.decide_prime-prime.ensures c.if-number-ne0.true
 
-of-buffers-requires : tie.Need-of-buffers-requires
+of-buffers-requires : tie.Need-of_buffers-answer-requires
 of-buffers-requires c κs = search rules
 
-returns-2 : tie.Need-returns-2
+returns-2 : tie.Need-returns-then-number-ne0-2
 returns-2 c =
     let s = start c.before.before.before in
-    current c.before.before (refused_first (first s) (second s) (first-right s) _ c.before.of-buffers.ensures c.if2.true)
+    current c.before.before (refused_first (first s) (second s) (first-right s) _ c.before.of_buffers-answer.ensures c.if-number-ne0-2.true)
 
-of-witness-requires : tie.Need-of-witness-requires
+of-witness-requires : tie.Need-of_witness-requires
 of-witness-requires c κs =
     let s = start c.before.before.before in
     checked s.args.e s.args.p s.args.n s.args.l s.args.selectors.now s.args.labels.now s.args.witness.now s.args.publics.now s.args.transcript.now s.args.challenges.now s.args.blinders.now s.args.scratch.now
-    (sym (ap (λ a. a.number) c.before.of-buffers.ensures) ∙ c.if2.false)
+    (sym (ap (λ a. a.number) c.before.of_buffers-answer.ensures) ∙ c.if-number-ne0-2.false)
 
-returns-3 : tie.Need-returns-3
+returns-3 : tie.Need-returns
 returns-3 c =
     let d = c.before in
     let s = start d.before.before.before in
-    current d.before.before (refused_later (first s) (second s) (first-right s) _ _ d.before.of-buffers.ensures d.if2.false c.of-witness.ensures)
+    current d.before.before (refused_later (first s) (second s) (first-right s) _ _ d.before.of_buffers-answer.ensures d.if-number-ne0-2.false c.of_witness.ensures)
 
-pub decide-spec : {M : Type 1} → statement M
-decide-spec = tie.close (tie.spec decide-prime-requires returns of-buffers-requires returns-2 of-witness-requires returns-3)
+pub decide_spec : {M : Type 1} → statement M
+decide_spec = tie.close (tie.spec decide-prime-requires returns of-buffers-requires returns-2 of-witness-requires returns-3)

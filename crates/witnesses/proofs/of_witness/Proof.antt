@@ -28,77 +28,77 @@ abbrev zeros : tie.Start → Reason
 zeros s = reason_at 11 (zero_factor s.args.p s.args.n (constraints s) (lent_witness s.args.n s.args.witness.now) (get_or s.args.challenges.now 0 0) (get_or s.args.challenges.now 1 0)) s.args.n
 
 -- the first is decided; and the second; what answers by the reasons past the first
-abbrev start : tie.After-decide-at → tie.Start
+abbrev start : tie.After-decide_at-gates → tie.Start
 start c = c.before.before.before.before.before.before.before
 
-gates-decided : (c : tie.After-decide-at) → c.decide-at.result ≡ answer_of (gates (start c) ∷ [])
+gates-decided : (c : tie.After-decide_at-gates) → c.decide_at-gates.result ≡ answer_of (gates (start c) ∷ [])
 gates-decided c =
     let s = start c in
-    c.decide-at.ensures ∙ ap (λ (at : ℕ). answer_of (reason_at 9 at s.args.n ∷ [])) (c.before.broken-gate.ensures s.args.labels.now)
+    c.decide_at-gates.ensures ∙ ap (λ (at : ℕ). answer_of (reason_at 9 at s.args.n ∷ [])) (c.before.broken_gate-row.ensures s.args.labels.now)
 
-copies-decided : (c : tie.After-decide-at2) → c.decide-at2.result ≡ answer_of (copies (start c.before.before.before) ∷ [])
+copies-decided : (c : tie.After-decide_at-copies) → c.decide_at-copies.result ≡ answer_of (copies (start c.before.before.before) ∷ [])
 copies-decided c =
     let s = start c.before.before.before in
-    c.decide-at2.ensures ∙ ap (λ (at : ℕ). answer_of (reason_at 10 at (3 * s.args.n) ∷ [])) (c.before.broken-copy.ensures s.args.selectors.now)
+    c.decide_at-copies.ensures ∙ ap (λ (at : ℕ). answer_of (reason_at 10 at (3 * s.args.n) ∷ [])) (c.before.broken_copy-place.ensures s.args.selectors.now)
 
-past : (c : tie.Else1) (a : Answer) → a ≡ answer_of (copies (start c.before) ∷ zeros (start c.before) ∷ [])
+past : (c : tie.Else-number-ne0) (a : Answer) → a ≡ answer_of (copies (start c.before) ∷ zeros (start c.before) ∷ [])
     → a ≡ answer_of (gates (start c.before) ∷ copies (start c.before) ∷ zeros (start c.before) ∷ [])
 past c a e =
     let s = start c.before in
-    refused_later (gates s ∷ []) (copies s ∷ zeros s ∷ []) (omega arith, tt) _ a (gates-decided c.before) c.if1.false e
+    refused_later (gates s ∷ []) (copies s ∷ zeros s ∷ []) (omega arith, tt) _ a (gates-decided c.before) c.if-number-ne0.false e
 
-broken-gate-requires : tie.Need-broken-gate-requires
+broken-gate-requires : tie.Need-broken_gate-row-requires
 broken-gate-requires c κs =
     let s = c.before.before.before.before.before in (
       (omega (arith, (field_prime _ s.requires.admissible.one_of_three).two), (rows-power _ _ s.requires.admissible.rows).small),
-      (s.requires.selectors-length, s.requires.witness-length),
+      (s.requires.selectors_length_lem, s.requires.witness_length_lem),
     )
 
-decide-at-requires : tie.Need-decide-at-requires
+decide-at-requires : tie.Need-decide_at-gates-requires
 decide-at-requires c κs = search rules
 
-returns : tie.Need-returns
+returns : tie.Need-returns-then-number-ne0
 returns c =
     let s = start c.before in
-    refused_first (gates s ∷ []) (copies s ∷ zeros s ∷ []) (omega arith, tt) _ (gates-decided c.before) c.if1.true
+    refused_first (gates s ∷ []) (copies s ∷ zeros s ∷ []) (omega arith, tt) _ (gates-decided c.before) c.if-number-ne0.true
 
-broken-copy-requires : tie.Need-broken-copy-requires
+broken-copy-requires : tie.Need-broken_copy-place-requires
 broken-copy-requires c κs = search rules
 
-mul-decide-at : tie.Need-overflow-mul-decide-at
+mul-decide-at : tie.Need-overflow_mul-m
 mul-decide-at c = search rules
 
-decide-at-requires-2 : tie.Need-decide-at-requires-2
+decide-at-requires-2 : tie.Need-decide_at-copies-requires
 decide-at-requires-2 c κs = search rules
 
-returns-2 : tie.Need-returns-2
+returns-2 : tie.Need-returns-then-number-ne0-2
 returns-2 c =
     let d = c.before.before.before in
     let s = start d.before in
-    past d _ (refused_first (copies s ∷ []) (zeros s ∷ []) (omega arith, tt) _ (copies-decided c.before) c.if2.true)
+    past d _ (refused_first (copies s ∷ []) (zeros s ∷ []) (omega arith, tt) _ (copies-decided c.before) c.if-number-ne0-2.true)
 
-shared-slice-read-zero-row : tie.Need-shared-slice-read-zero-row
+shared-slice-read-zero-row : tie.Need-bounds-challenges-0
 shared-slice-read-zero-row c = search rules
 
-shared-slice-read-zero-row-2 : tie.Need-shared-slice-read-zero-row-2
+shared-slice-read-zero-row-2 : tie.Need-bounds-challenges-1
 shared-slice-read-zero-row-2 c = search rules
 
-zero-row-requires : tie.Need-zero-row-requires
+zero-row-requires : tie.Need-zero_row-at-requires
 zero-row-requires c κs = search rules
 
-decide-at-requires-3 : tie.Need-decide-at-requires-3
+decide-at-requires-3 : tie.Need-decide_at-requires
 decide-at-requires-3 c κs = search rules
 
-returns-3 : tie.Need-returns-3
+returns-3 : tie.Need-returns
 returns-3 c =
     let d = c.before.before.before.before.before.before.before in
     let s = start d.before in
     past d _
-    (refused_later (copies s ∷ []) (zeros s ∷ []) (omega arith, tt) _ _ (copies-decided c.before.before.before.before.before) c.before.before.before.before.if2.false
-    (c.decide-at3.ensures ∙ ap (λ (at : ℕ). answer_of (reason_at 11 at s.args.n ∷ [])) (c.before.zero_row.ensures s.args.selectors.now)))
+    (refused_later (copies s ∷ []) (zeros s ∷ []) (omega arith, tt) _ _ (copies-decided c.before.before.before.before.before) c.before.before.before.before.if-number-ne0-2.false
+    (c.decide_at.ensures ∙ ap (λ (at : ℕ). answer_of (reason_at 11 at s.args.n ∷ [])) (c.before.zero_row-at.ensures s.args.selectors.now)))
 
-pub of-witness-spec : {M : Type 1} → statement M
-of-witness-spec =
+pub of_witness_spec : {M : Type 1} → statement M
+of_witness_spec =
     tie.close
     (tie.spec
     broken-gate-requires

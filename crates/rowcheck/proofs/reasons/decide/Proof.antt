@@ -23,7 +23,7 @@ countable : (s : tie.Start) → Lent s.args.p s.args.n s.args.l (long s) (rows_d
     → Countable s.args.n s.args.selectors.now s.args.labels.now s.args.witness.now s.args.publics.now s.args.z.now s.args.challenges.now
 countable s lent =
     let small : s.args.n ≤ 1024 = (rows-power _ _ lent.admissible.rows).small in
-    let least : s.args.l ≤ s.args.n = lent.publics-few in
+    let least : s.args.l ≤ s.args.n = lent.publics_few in
     let a : length s.args.selectors.now ≡ selectors_length s.args.n = cc lent.lengths in
     let b : length s.args.labels.now ≡ labels_length s.args.n = cc lent.lengths in
     let d : length s.args.witness.now ≡ witness_length s.args.n = cc lent.lengths in
@@ -32,29 +32,29 @@ countable s lent =
     let g : length s.args.challenges.now ≡ 2 = cc lent.lengths in
     record { selectors_long = a; labels_few = omega arith; numbers_few = omega arith }
 
-rows-requires : tie.Need-rows-requires
+rows-requires : tie.Need-rows-due-requires
 rows-requires c κs = search rules
 
-slice-aggregate-decide-filled : tie.Need-slice-aggregate-decide-filled
+slice-aggregate-decide-filled : tie.Need-slice_bounds-decide_filled-end
 slice-aggregate-decide-filled c = search rules
 
-slice-aggregate-decide-filled-2 : tie.Need-slice-aggregate-decide-filled-2
+slice-aggregate-decide-filled-2 : tie.Need-slice_bounds-decide_filled-end-2
 slice-aggregate-decide-filled-2 c = search rules
 
-decide-filled-requires : tie.Need-decide-filled-requires
+decide-filled-requires : tie.Need-decide_filled-requires
 decide-filled-requires c κs =
     let s = c.before.before.before.before.before.before.before.before.before in
-    rw c.before.before.rows.ensures ((omega arith, omega arith), countable s)
+    rw c.before.before.rows-due.ensures ((omega arith, omega arith), countable s)
 
 returns : tie.Need-returns
 returns c =
     let s = c.before.before.before.before.before.before.before.before.before.before in
-    c.decide-filled.ensures
+    c.decide_filled.ensures
     ∙ ap (λ (due : List ℕ). answer_of (lent_reasons s.args.p s.args.n s.args.l (long s) due ++ number_reasons s.args.p s.args.n s.args.l (s.args.selectors.now ++ (s.args.witness.now ++ (s.args.publics.now ++ (s.args.z.now ++ s.args.challenges.now)))) s.args.selectors.now s.args.labels.now))
-    c.before.before.before.rows.ensures
+    c.before.before.before.rows-due.ensures
 
-pub decide-spec : {M : Type 1} → statement M
-decide-spec =
+pub decide_spec : {M : Type 1} → statement M
+decide_spec =
     tie.close
     (tie.spec
     rows-requires

@@ -33,7 +33,7 @@ countable : (s : tie.Start) → Lent s.args.p s.args.n s.args.l (long s) (due s)
     → Countable s.args.n s.args.selectors.now s.args.labels.now s.args.witness.now s.args.publics.now s.args.challenges.now s.args.blinders.now
 countable s lent =
     let small : s.args.n ≤ 1024 = (rows-power _ _ lent.admissible.rows).small in
-    let least : s.args.l ≤ s.args.n = lent.publics-few in
+    let least : s.args.l ≤ s.args.n = lent.publics_few in
     let a : length s.args.selectors.now ≡ selectors_length s.args.n = cc lent.lengths in
     let b : length s.args.labels.now ≡ labels_length s.args.n = cc lent.lengths in
     let d : length s.args.witness.now ≡ witness_length s.args.n = cc lent.lengths in
@@ -51,56 +51,56 @@ few-long : (s : tie.Start) → length (due s) ≤ 16
 few-long s = let few : s.args.e ≤ 1 = s.requires.0 in simp (length-append, length-replicate) (omega arith)
 
 -- where the call begins
-abbrev start : tie.After-counted2 → tie.Start
+abbrev start : tie.After-counted-2 → tie.Start
 start c = c.before.before.before.before.before.before.before.before.before.before.before.before.before.before
 
 -- the two tables, as they are handed on
-long-is : (c : tie.After-counted2) → c.before.before.counted.result.now ≡ long (start c)
+long-is : (c : tie.After-counted-2) → c.before.before.counted.result.now ≡ long (start c)
 long-is c =
     let s = start c in
     c.before.before.counted.ensures
-    ∙ table s.args.e _ _ _ _ _ _ _ _ _ s.pre.0 c.before.before.before.before.before.behind.ensures
+    ∙ table s.args.e _ _ _ _ _ _ _ _ _ s.requires.0 c.before.before.before.before.before.behind.ensures
 
-due-is : (c : tie.After-counted2) → c.counted2.result.now ≡ due (start c)
-due-is c = c.counted2.ensures ∙ c.before.before.before.before.prove.ensures.0
+due-is : (c : tie.After-counted-2) → c.counted-2.result.now ≡ due (start c)
+due-is c = c.counted-2.ensures ∙ c.before.before.before.before.prove-due.ensures.0
 
 behind-requires : tie.Need-behind-requires
 behind-requires c κs = search rules
 
-prove-requires : tie.Need-prove-requires
+prove-requires : tie.Need-prove-due-requires
 prove-requires c κs = search rules
 
-slice-aggregate-counted : tie.Need-slice-aggregate-counted
+slice-aggregate-counted : tie.Need-slice_bounds-counted-end
 slice-aggregate-counted c = search rules
 
 counted-requires : tie.Need-counted-requires
 counted-requires c κs = search rules
 
-slice-aggregate-counted-2 : tie.Need-slice-aggregate-counted-2
+slice-aggregate-counted-2 : tie.Need-slice_bounds-counted-end-2
 slice-aggregate-counted-2 c = search rules
 
 counted-requires-2 : tie.Need-counted-requires-2
 counted-requires-2 c κs = search rules
 
-decide-filled-requires : tie.Need-decide-filled-requires
+decide-filled-requires : tie.Need-decide_filled-requires
 decide-filled-requires c κs =
     let s = start c in (
       (ap (λ (l : List ℕ). length l) (long-is c) ∙ same_long s ∙ sym (ap (λ (l : List ℕ). length l) (due-is c)), subst (λ (b : List ℕ). length b ≤ 16) (sym (due-is c)) (few-long s)),
       λ lent.
           countable s
           (subst (λ (b : List ℕ). Lent s.args.p s.args.n s.args.l (long s) b) (due-is c)
-          (subst (λ (a : List ℕ). Lent s.args.p s.args.n s.args.l a c.counted2.result.now) (long-is c) lent)),
+          (subst (λ (a : List ℕ). Lent s.args.p s.args.n s.args.l a c.counted-2.result.now) (long-is c) lent)),
     )
 
 returns : tie.Need-returns
 returns c =
     let s = start c.before in
-    c.decide-filled.ensures
+    c.decide_filled.ensures
     ∙ ap₂ (λ (a b : List ℕ). answer_of (lent_reasons s.args.p s.args.n s.args.l a b ++ number_reasons s.args.p s.args.n s.args.l (s.args.selectors.now ++ (s.args.witness.now ++ (s.args.publics.now ++ (s.args.challenges.now ++ s.args.blinders.now)))) s.args.selectors.now s.args.labels.now))
     (long-is c.before) (due-is c.before)
 
-pub of-buffers-spec : {M : Type 1} → statement M
-of-buffers-spec =
+pub of_buffers_spec : {M : Type 1} → statement M
+of_buffers_spec =
     tie.close
     (tie.spec
     behind-requires
