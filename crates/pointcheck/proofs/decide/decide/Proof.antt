@@ -24,52 +24,52 @@ due s = point_due (blinded_by s.args.n s.args.transcript.now) s.args.n s.args.l
 abbrev rest : tie.Start → List Reason
 rest s = bad_element s.args.p (s.args.publics.now ++ (s.args.prepared.now ++ (s.args.transcript.now ++ s.args.challenges.now))) ∷ []
 
-abbrev start : tie.After-decide-lent → tie.Start
+abbrev start : tie.After-decide_lent-answer → tie.Start
 start c = c.before.before.before.before.before.before.before.before.before.before
 
-lengths-due : (c : tie.After-decide-lent) → c.before.before.before.point.result ≡ due (start c)
+lengths-due : (c : tie.After-decide_lent-answer) → c.before.before.before.point-due.result ≡ due (start c)
 lengths-due c =
     let s = start c in
-    c.before.before.before.point.ensures ∙ ap (λ (e : ℕ). point_due e s.args.n s.args.l) c.before.before.before.before.blinded-by.ensures.0
+    c.before.before.before.point-due.ensures ∙ ap (λ (e : ℕ). point_due e s.args.n s.args.l) c.before.before.before.before.blinded_by-e.ensures.0
 
-blinded-by-requires : tie.Need-blinded-by-requires
+blinded-by-requires : tie.Need-blinded_by-e-requires
 blinded-by-requires c κs = search rules
 
-point-requires : tie.Need-point-requires
+point-requires : tie.Need-point-due-requires
 point-requires c κs = search rules
 
-slice-aggregate-decide-lent : tie.Need-slice-aggregate-decide-lent
+slice-aggregate-decide-lent : tie.Need-slice_bounds-decide_lent-end
 slice-aggregate-decide-lent c = search rules
 
-slice-aggregate-decide-lent-2 : tie.Need-slice-aggregate-decide-lent-2
+slice-aggregate-decide-lent-2 : tie.Need-slice_bounds-decide_lent-end-2
 slice-aggregate-decide-lent-2 c = search rules
 
-decide-lent-requires : tie.Need-decide-lent-requires
+decide-lent-requires : tie.Need-decide_lent-answer-requires
 decide-lent-requires c κs = search rules
 
-returns : tie.Need-returns
+returns : tie.Need-returns-then-number-ne0
 returns c =
     let s = start c.before in
-    lent_refused s.args.p s.args.n s.args.l (long s) (due s) (rest s) (lengths-due c.before) c.before.decide-lent.ensures c.if1.true
+    lent_refused s.args.p s.args.n s.args.l (long s) (due s) (rest s) (lengths-due c.before) c.before.decide_lent-answer.ensures c.if-number-ne0.true
 
 numbers-requires : tie.Need-numbers-requires
 numbers-requires c κs =
     let s = start c.before in
-    let lent = lent_known s.args.p s.args.n s.args.l (long s) (due s) (rest s) (lengths-due c.before) c.before.decide-lent.ensures c.if1.false refl in
+    let lent = lent_known s.args.p s.args.n s.args.l (long s) (due s) (rest s) (lengths-due c.before) c.before.decide_lent-answer.ensures c.if-number-ne0.false refl in
     let publics : length s.args.publics.now ≡ s.args.l = cc lent.lengths in
     let prepared : length s.args.prepared.now ≡ prepared_length s.args.n = cc lent.lengths in
     let transcript : length s.args.transcript.now ≡ transcript_length (blinded_by s.args.n s.args.transcript.now) s.args.n = cc lent.lengths in
     let challenges : length s.args.challenges.now ≡ 4 = cc lent.lengths in
-    omega (arith, (rows-power _ _ lent.admissible.rows).small, lent.publics-few, blinded_most s.args.n s.args.transcript.now)
+    omega (arith, (rows-power _ _ lent.admissible.rows).small, lent.publics_few, blinded_most s.args.n s.args.transcript.now)
 
-returns-2 : tie.Need-returns-2
+returns-2 : tie.Need-returns
 returns-2 c =
     let d = c.before.before in
     let s = start d in
-    lent_later s.args.p s.args.n s.args.l (long s) (due s) (rest s) (lengths-due d) d.decide-lent.ensures c.before.if1.false c.numbers.ensures
+    lent_later s.args.p s.args.n s.args.l (long s) (due s) (rest s) (lengths-due d) d.decide_lent-answer.ensures c.before.if-number-ne0.false c.numbers.ensures
 
-pub decide-spec : {M : Type 1} → statement M
-decide-spec =
+pub decide_spec : {M : Type 1} → statement M
+decide_spec =
     tie.close
     (tie.spec
     blinded-by-requires
