@@ -6,7 +6,7 @@ ghost use Rattle.sheet.specs.Table.{line_words, table_lines, column_block, row_b
 use super::table::{LINE_WORDS, table_place};
 
 // Number k, of `count` numbers, is word start + step × (k % run) + leap × (k / run).
-#[derive(Drop)]
+#[derive(Clone, Copy)]
 pub struct Block {
     pub start: usize,
     pub run: usize,
