@@ -17,26 +17,26 @@ first s = bad_first s.args.s.now ∷ []
 abbrev second : tie.Start → List Reason
 second s = shape_reasons (sheet_p s.args.s.now) (sheet_n s.args.s.now) (sheet_l s.args.s.now) sheet_rows
 
-read-first-requires : tie.Need-read-first-requires
+read-first-requires : tie.Need-read_first-line-requires
 read-first-requires c κs = search rules
 
-returns : tie.Need-returns
+returns : tie.Need-returns-then-number-ne0
 returns c =
     let s = c.before.before.before.before in
-    (refused_first (first s) (second s) (omega arith, tt) _ c.before.before.read_first.ensures.0 c.if1.true, λ u. absurd (c.if1.true u))
+    (refused_first (first s) (second s) (omega arith, tt) _ c.before.before.read_first-line.ensures.0 c.if-number-ne0.true, λ u. absurd (c.if-number-ne0.true u))
 
-decide-shape-requires : tie.Need-decide-shape-requires
+decide-shape-requires : tie.Need-decide_shape-requires
 decide-shape-requires c κs = search rules
 
-returns-2 : tie.Need-returns-2
+returns-2 : tie.Need-returns
 returns-2 c =
-    let r = c.before.before.before.read_first in
+    let r = c.before.before.before.read_first-line in
     let s = c.before.before.before.before.before in
-    let zero = c.before.if1.false in
+    let zero = c.before.if-number-ne0.false in
     let opened = r.ensures.1 zero in (
-      refused_later (first s) (second s) (omega arith, tt) _ _ r.ensures.0 zero (c.decide-shape.ensures ∙ rw (opened.p-is, opened.n-is, opened.l-is)),
-      λ u. (opened, shaped _ _ _ sheet_rows _ c.decide-shape.ensures u),
+      refused_later (first s) (second s) (omega arith, tt) _ _ r.ensures.0 zero (c.decide_shape.ensures ∙ rw (opened.p_is, opened.n_is, opened.l_is)),
+      λ u. (opened, shaped _ _ _ sheet_rows _ c.decide_shape.ensures u),
     )
 
-pub decide-first-spec : {M : Type 1} → statement M
-decide-first-spec = tie.close (tie.spec read-first-requires returns decide-shape-requires returns-2)
+pub decide_first_spec : {M : Type 1} → statement M
+decide_first_spec = tie.close (tie.spec read-first-requires returns decide-shape-requires returns-2)

@@ -16,23 +16,23 @@ first s = bad_first s.args.s.now ∷ []
 abbrev second : tie.Start → List Reason
 second s = prime_reasons (sheet_p s.args.s.now)
 
-read-first-requires : tie.Need-read-first-requires
+read-first-requires : tie.Need-read_first-line-requires
 read-first-requires c κs = search rules
 
-returns : tie.Need-returns
+returns : tie.Need-returns-then-number-ne0
 returns c =
     let s = c.before.before.before.before in
-    refused_first (first s) (second s) (omega arith, tt) _ c.before.before.read_first.ensures.0 c.if1.true
+    refused_first (first s) (second s) (omega arith, tt) _ c.before.before.read_first-line.ensures.0 c.if-number-ne0.true
 
-decide-prime-requires : tie.Need-decide-prime-requires
+decide-prime-requires : tie.Need-decide_prime-requires
 decide-prime-requires c κs = search rules
 
-returns-2 : tie.Need-returns-2
+returns-2 : tie.Need-returns
 returns-2 c =
-    let r = c.before.before.before.read_first in
+    let r = c.before.before.before.read_first-line in
     let s = c.before.before.before.before.before in
-    let zero = c.before.if1.false in
-    refused_later (first s) (second s) (omega arith, tt) _ _ r.ensures.0 zero (c.decide-prime.ensures ∙ rw (r.ensures.1 zero).p-is)
+    let zero = c.before.if-number-ne0.false in
+    refused_later (first s) (second s) (omega arith, tt) _ _ r.ensures.0 zero (c.decide_prime.ensures ∙ rw (r.ensures.1 zero).p_is)
 
-pub decide-prime-spec : {M : Type 1} → statement M
-decide-prime-spec = tie.close (tie.spec read-first-requires returns decide-prime-requires returns-2)
+pub decide_prime_spec : {M : Type 1} → statement M
+decide_prime_spec = tie.close (tie.spec read-first-requires returns decide-prime-requires returns-2)

@@ -10,64 +10,64 @@ use Rattle.sheet.proofs.Decided.{first_long, first_bad, first_read, three}
 use Rattle.sheet.proofs.first.read_first.Statement.{statement}
 use Rattle.sheet.proofs.first.read_first.Tie as tie
 
-long : (c : tie.After-blank-3) → length (take 3 c.blank-3.result) ≡ 3
-long c = length-take-le 3 c.blank-3.result (omega (arith, c.blank-3.ensures))
+long : (c : tie.After-blank_3-words) → length (take 3 c.blank_3-words.result) ≡ 3
+long c = length-take-le 3 c.blank_3-words.result (omega (arith, c.blank_3-words.ensures))
 
 unread-requires : tie.Need-unread-requires
 unread-requires c κs = search rules
 
-returns : tie.Need-returns
+returns : tie.Need-returns-then-s-gt65536
 returns c =
     let e = c.unread.ensures in
-    let a = e ∙ first_long c.before.before.before.args.s.now c.before.if1.true in
+    let a = e ∙ first_long c.before.before.before.args.s.now c.before.if-s-gt65536.true in
     (a, λ u. absurd (omega (arith, ap (λ r. r.number) e)))
 
-blank-3-requires : tie.Need-blank-3-requires
+blank-3-requires : tie.Need-blank_3-words-requires
 blank-3-requires c κs = search rules
 
-array-borrow-prefix-words : tie.Need-array-borrow-prefix-words
+array-borrow-prefix-words : tie.Need-slice_bounds-words-end
 array-borrow-prefix-words c = search rules
 
-slice-aggregate-line : tie.Need-slice-aggregate-line
+slice-aggregate-line : tie.Need-slice_bounds-line-end
 slice-aggregate-line c = sym (long c.before)
 
-line-requires : tie.Need-line-requires
-line-requires c κs = (omega arith, c.before.before.if1.false, omega (arith, long c.before))
+line-requires : tie.Need-line-line-requires
+line-requires c κs = (omega arith, c.before.before.if-s-gt65536.false, omega (arith, long c.before))
 
 -- whether the line is in form
-form : (c : tie.After-line) → c.line.result.ok ≡ is_line_at c.before.before.before.before.before.args.s.now 0 3
-form c = c.line.ensures.0 ∙ ap (is_line_at c.before.before.before.before.before.args.s.now 0) (long c.before.before)
+form : (c : tie.After-line-line) → c.line-line.result.ok ≡ is_line_at c.before.before.before.before.before.args.s.now 0 3
+form c = c.line-line.ensures.0 ∙ ap (is_line_at c.before.before.before.before.before.args.s.now 0) (long c.before.before)
 
-unread-requires-2 : tie.Need-unread-requires-2
+unread-requires-2 : tie.Need-unread-requires-then-not-line
 unread-requires-2 c κs = search rules
 
-returns-2 : tie.Need-returns-2
+returns-2 : tie.Need-returns-then-not-line
 returns-2 c =
-    let e = c.unread2.ensures in
+    let e = c.unread-then-not-line.ensures in
     let l = c.before.before.before.before in
-    let a = e ∙ first_bad l.before.before.before.before.before.args.s.now l.before.before.before.if1.false (sym (form l) ∙ not-true _ c.before.if2.true) in
+    let a = e ∙ first_bad l.before.before.before.before.before.args.s.now l.before.before.before.if-s-gt65536.false (sym (form l) ∙ not-true _ c.before.if-not-line.true) in
     (a, λ u. absurd (omega (arith, ap (λ r. r.number) e)))
 
-array-read-p : tie.Need-array-read-p
+array-read-p : tie.Need-bounds-words-0
 array-read-p c = search rules
 
-array-read-n : tie.Need-array-read-n
+array-read-n : tie.Need-bounds-words-1
 array-read-n c = search rules
 
-array-read-l : tie.Need-array-read-l
+array-read-l : tie.Need-bounds-words-2
 array-read-l c = search rules
 
 accepted-requires : tie.Need-accepted-requires
 accepted-requires c κs = search rules
 
-returns-3 : tie.Need-returns-3
+returns-3 : tie.Need-returns
 returns-3 c =
     let l = c.before.before.before.before in
     let s = l.before.before.before.before.before.args.s.now in
-    let short = l.before.before.before.if1.false in
-    let good = not-false _ c.before.if2.false in
-    let got = l.line.ensures.1 good in
-    let word = three s l.line.new.1.1.0 (drop 3 l.before.before.blank-3.result) _ (long l.before.before) got.2 in (
+    let short = l.before.before.before.if-s-gt65536.false in
+    let good = not-false _ c.before.if-not-line.false in
+    let got = l.line-line.ensures.1 good in
+    let word = three s l.line-line.new.out (drop 3 l.before.before.blank_3-words.result) _ (long l.before.before) got.2 in (
       c.accepted.ensures ∙ first_read s short (sym (form l) ∙ good),
       λ u.
           record {
@@ -80,8 +80,8 @@ returns-3 c =
           },
     )
 
-pub read-first-spec : {M : Type 1} → statement M
-read-first-spec =
+pub read_first_spec : {M : Type 1} → statement M
+read_first_spec =
     tie.close
     (tie.spec
     unread-requires

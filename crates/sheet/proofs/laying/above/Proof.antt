@@ -28,40 +28,40 @@ begins : (p : ℕ) (f : ℕ → ℕ) (count : ℕ) → first_above p (tab f coun
 unfolding first_above
 begins p f count = ap (λ (m : ℕ). first (high p f count) 0 m) (length-tab f count ∙ sym (sub-zero count))
 
-abbrev invariant-loop : tie.invariant-loop
+abbrev invariant-loop : tie.invariant-loop-k
 invariant-loop p table block count k₀ k =
     (k ≤ count) × (first_above p (tab (in_table table block) count) ≡ first (high p (in_table table block) count) k (count - k))
 
-abbrev decreases-loop : tie.decreases-loop
+abbrev decreases-loop : tie.decreases-loop-k
 decreases-loop p table block count k₀ k = count - k
 
-loop-holds : tie.Need-loop-init invariant-loop decreases-loop
+loop-holds : tie.Need-loop-k-init invariant-loop decreases-loop
 loop-holds c = (search rules, begins _ _ _)
 
 word-requires : tie.Need-word-requires invariant-loop decreases-loop
 word-requires c κs = c.before.before.before.requires
 
-returns : tie.Need-returns invariant-loop decreases-loop
+returns : tie.Need-returns-then-p-word invariant-loop decreases-loop
 returns c =
-    let h = c.before.before.loop-test.true in
-    sym (c.before.before.before.loop.invariant.1 ∙ first_stop _ _ _ h (rw (read _ _ _ _ h c.before.word.ensures) (le-leb _ _ c.if1.true)))
+    let h = c.before.before.loop-k-test.true in
+    sym (c.before.before.before.loop-k.invariant.1 ∙ first_stop _ _ _ h (rw (read _ _ _ _ h c.before.word.ensures) (le-leb _ _ c.if-p-word.true)))
 
-add-k : tie.Need-overflow-add-k invariant-loop decreases-loop
+add-k : tie.Need-overflow_add-k invariant-loop decreases-loop
 add-k c = search rules
 
-loop-less : tie.Need-loop-smaller invariant-loop decreases-loop
+loop-less : tie.Need-loop-k-smaller invariant-loop decreases-loop
 loop-less c = search rules
 
-loop-again : tie.Need-loop-preserved invariant-loop decreases-loop
+loop-again : tie.Need-loop-k-preserved invariant-loop decreases-loop
 loop-again c =
-    let h = c.before.before.loop-test.true in
-    (search rules, c.before.before.before.loop.invariant.1 ∙ first_skip _ _ _ h (rw (read _ _ _ _ h c.before.word.ensures) (lt-leb _ _ c.if1.false)))
+    let h = c.before.before.loop-k-test.true in
+    (search rules, c.before.before.before.loop-k.invariant.1 ∙ first_skip _ _ _ h (rw (read _ _ _ _ h c.before.word.ensures) (lt-leb _ _ c.if-p-word.false)))
 
-returns-2 : tie.Need-returns-2 invariant-loop decreases-loop
-returns-2 c = sym (c.before.loop.invariant.1 ∙ first_end _ _ _ c.loop-test.false)
+returns-2 : tie.Need-returns invariant-loop decreases-loop
+returns-2 c = sym (c.before.loop-k.invariant.1 ∙ first_end _ _ _ c.loop-k-test.false)
 
-pub above-spec : {M : Type 1} → statement M
-above-spec =
+pub above_spec : {M : Type 1} → statement M
+above_spec =
     tie.close
     (tie.spec
     invariant-loop

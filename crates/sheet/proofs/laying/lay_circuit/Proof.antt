@@ -23,19 +23,19 @@ lay-requires-2 c κs =
     let block = c.before.labels.ensures in
     (labels_fit _ _ _ pre.0 block, count_room block (omega (arith, pre.0.few)))
 
-same_length : tie.Need-same-length
+same_length : tie.Need-shape_of-selectors
 same_length c = search rules
 
-same-length-2 : tie.Need-same-length-2
+same-length-2 : tie.Need-shape_of-labels
 same-length-2 c = search rules
 
 returns : tie.Need-returns
 returns c =
     let s = c.before.before.before.before.before.before.before.before.before.before.before.before.before in
-    (laid_block s.args.table.now c.before.before.before.before.before.before.before.before.before.selectors.ensures s.requires.1 c.before.before.before.before.before.before.before.lay.ensures, laid_block s.args.table.now c.before.before.before.before.labels.ensures s.requires.2 c.before.before.lay2.ensures)
+    (laid_block s.args.table.now c.before.before.before.before.before.before.before.before.before.selectors.ensures s.requires.1 c.before.before.before.before.before.before.before.lay.ensures, laid_block s.args.table.now c.before.before.before.before.labels.ensures s.requires.2 c.before.before.lay-2.ensures)
 
-pub lay-circuit-spec : {M : Type 1} → statement M
-lay-circuit-spec =
+pub lay_circuit_spec : {M : Type 1} → statement M
+lay_circuit_spec =
     tie.close
     (tie.spec
     selectors-requires

@@ -23,16 +23,16 @@ lay-requires-2 c κs =
     let block = c.before.publics.ensures in
     (publics_fit _ _ _ pre.0 block, count_room block (omega (arith, pre.0.few, pre.0.publics)))
 
-lay-drawn-requires : tie.Need-lay-drawn-requires
+lay-drawn-requires : tie.Need-lay_drawn-requires
 lay-drawn-requires c κs = search rules
 
-same_length : tie.Need-same-length
+same_length : tie.Need-shape_of-witness
 same_length c = search rules
 
-same-length-2 : tie.Need-same-length-2
+same-length-2 : tie.Need-shape_of-publics
 same-length-2 c = search rules
 
-same-length-3 : tie.Need-same-length-3
+same-length-3 : tie.Need-shape_of-challenges
 same-length-3 c = search rules
 
 returns : tie.Need-returns
@@ -40,13 +40,13 @@ returns c =
     let s = c.before.before.before.before.before.before.before.before.before.before.before.before.before.before.before.before.before.before in (
       laid_block s.args.table.now c.before.before.before.before.before.before.before.before.before.before.before.before.before.witness.ensures s.requires.2 c.before.before.before.before.before.before.before.before.before.before.before.lay.ensures,
       (
-        laid_block s.args.table.now c.before.before.before.before.before.before.before.before.publics.ensures s.requires.3 c.before.before.before.before.before.before.lay2.ensures,
-        c.before.before.lay-drawn.ensures,
+        laid_block s.args.table.now c.before.before.before.before.before.before.before.before.publics.ensures s.requires.3 c.before.before.before.before.before.before.lay-2.ensures,
+        c.before.before.lay_drawn.ensures,
       ),
     )
 
-pub lay-filling-spec : {M : Type 1} → statement M
-lay-filling-spec =
+pub lay_filling_spec : {M : Type 1} → statement M
+lay_filling_spec =
     tie.close
     (tie.spec
     witness-requires

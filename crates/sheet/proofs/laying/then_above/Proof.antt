@@ -11,21 +11,21 @@ use Rattle.sheet.specs.Table.{in_table}
 use Rattle.sheet.proofs.laying.then_above.Statement.{statement}
 use Rattle.sheet.proofs.laying.then_above.Tie as tie
 
-returns : tie.Need-returns
-returns c = rw (lt-ltb _ _ c.if1.true)
+returns : tie.Need-returns-then-at-long
+returns c = rw (lt-ltb _ _ c.if-at-long.true)
 
 above-requires : tie.Need-above-requires
 above-requires c κs = search rules
 
-add-result : tie.Need-overflow-add-result
+add-result : tie.Need-overflow_add-result
 add-result c =
     let a = c.before.before.before.args in
     let f = in_table a.table.now a.block in
     omega (arith, c.above.ensures, first_above-le a.p (tab f a.block.count), length-tab f a.block.count)
 
-returns-2 : tie.Need-returns-2
+returns-2 : tie.Need-returns
 returns-2 c =
-    rw (le-ltb _ _ c.before.if1.false) (ap (λ (k : ℕ). c.before.before.before.args.long + k) c.above.ensures)
+    rw (le-ltb _ _ c.before.if-at-long.false) (ap (λ (k : ℕ). c.before.before.before.args.long + k) c.above.ensures)
 
-pub then-above-spec : {M : Type 1} → statement M
-then-above-spec = tie.close (tie.spec returns above-requires add-result returns-2)
+pub then_above_spec : {M : Type 1} → statement M
+then_above_spec = tie.close (tie.spec returns above-requires add-result returns-2)

@@ -5,53 +5,53 @@ use Rattle.sheet.specs.Sheet.{fields_due}
 use Rattle.sheet.proofs.lines.fields_due.Statement.{statement}
 use Rattle.sheet.proofs.lines.fields_due.Tie as tie
 
-returns : tie.Need-returns
+returns : tie.Need-returns-then-i-eq0
 unfolding fields_due
-returns c = rw (eq-eqb _ _ c.if1.true)
+returns c = rw (eq-eqb _ _ c.if-i-eq0.true)
 
-returns-2 : tie.Need-returns-2
+returns-2 : tie.Need-returns-then-i-n
 unfolding fields_due
-returns-2 c = rw (ne_eqb _ _ c.before.if1.false, le-leb _ _ c.if2.true)
+returns-2 c = rw (ne_eqb _ _ c.before.if-i-eq0.false, le-leb _ _ c.if-i-n.true)
 
-add-if3 : tie.Need-overflow-add-if3
+add-if3 : tie.Need-overflow_add-n
 add-if3 c = search rules
 
-returns-3 : tie.Need-returns-3
+returns-3 : tie.Need-returns-then-i-n-2
 unfolding fields_due
-returns-3 c = rw (ne_eqb _ _ c.before.before.if1.false, lt-leb _ _ c.before.if2.false, le-leb _ _ c.if3.true)
+returns-3 c = rw (ne_eqb _ _ c.before.before.if-i-eq0.false, lt-leb _ _ c.before.if-i-n.false, le-leb _ _ c.if-i-n-2.true)
 
-add-if4 : tie.Need-overflow-add-if4
+add-if4 : tie.Need-overflow_add-n-2
 add-if4 c = search rules
 
-add-if4-2 : tie.Need-overflow-add-if4-2
+add-if4-2 : tie.Need-overflow_add-n-3
 add-if4-2 c = search rules
 
-returns-4 : tie.Need-returns-4
+returns-4 : tie.Need-returns-then-i-n-3
 unfolding fields_due
 returns-4 c =
-    rw (ne_eqb _ _ c.before.before.before.if1.false, lt-leb _ _ c.before.before.if2.false, lt-leb _ _ c.before.if3.false, le-leb _ _ c.if4.true)
+    rw (ne_eqb _ _ c.before.before.before.if-i-eq0.false, lt-leb _ _ c.before.before.if-i-n.false, lt-leb _ _ c.before.if-i-n-2.false, le-leb _ _ c.if-i-n-3.true)
 
-add-if5 : tie.Need-overflow-add-if5
+add-if5 : tie.Need-overflow_add-n-4
 add-if5 c = search rules
 
-add-if5-2 : tie.Need-overflow-add-if5-2
+add-if5-2 : tie.Need-overflow_add-n-5
 add-if5-2 c = search rules
 
-add-if5-3 : tie.Need-overflow-add-if5-3
+add-if5-3 : tie.Need-overflow_add-n-6
 add-if5-3 c = search rules
 
-returns-5 : tie.Need-returns-5
+returns-5 : tie.Need-returns-then-i-n-4
 unfolding fields_due
 returns-5 c =
-    rw (ne_eqb _ _ c.before.before.before.before.if1.false, lt-leb _ _ c.before.before.before.if2.false, lt-leb _ _ c.before.before.if3.false, lt-leb _ _ c.before.if4.false, le-leb _ _ c.if5.true)
+    rw (ne_eqb _ _ c.before.before.before.before.if-i-eq0.false, lt-leb _ _ c.before.before.before.if-i-n.false, lt-leb _ _ c.before.before.if-i-n-2.false, lt-leb _ _ c.before.if-i-n-3.false, le-leb _ _ c.if-i-n-4.true)
 
-returns-6 : tie.Need-returns-6
+returns-6 : tie.Need-returns
 unfolding fields_due
 returns-6 c =
-    rw (ne_eqb _ _ c.before.before.before.before.if1.false, lt-leb _ _ c.before.before.before.if2.false, lt-leb _ _ c.before.before.if3.false, lt-leb _ _ c.before.if4.false, lt-leb _ _ c.if5.false)
+    rw (ne_eqb _ _ c.before.before.before.before.if-i-eq0.false, lt-leb _ _ c.before.before.before.if-i-n.false, lt-leb _ _ c.before.before.if-i-n-2.false, lt-leb _ _ c.before.if-i-n-3.false, lt-leb _ _ c.if-i-n-4.false)
 
-pub fields-due-spec : {M : Type 1} → statement M
-fields-due-spec =
+pub fields_due_spec : {M : Type 1} → statement M
+fields_due_spec =
     tie.close
     (tie.spec
     returns

@@ -30,58 +30,58 @@ abbrev second : tie.Start → List Reason
 second s =
     bad_public_row (lent_constraints s.args.n (tab (selectors_in s.args.table.now s.args.n) (selectors_length s.args.n)) (labelsOf s)) s.args.l ∷ []
 
-decided : (c : tie.After-decide-at) → c.decide-at.result ≡ answer_of (first c.before.before.before.before.before)
+decided : (c : tie.After-decide_at-answer) → c.decide_at-answer.result ≡ answer_of (first c.before.before.before.before.before)
 decided c =
     let s = c.before.before.before.before.before in
     let t = s.args.table.now in
     let n = s.args.n in
-    let long = c.before.before.before.labels_length.ensures in
-    let at = c.before.above.ensures ∙ ap (λ (B : Block). first_above (3 * n) (tab (in_table t B) B.count)) c.before.before.labels.ensures in
-    c.decide-at.ensures ∙ ap₂ (λ (at count : ℕ). answer_of (reason_at 8 at count ∷ [])) at (long ∙ sym (length-tab (labels_in t n) (labels_length n)))
+    let long = c.before.before.before.labels_length-labels.ensures in
+    let at = c.before.above-place.ensures ∙ ap (λ (B : Block). first_above (3 * n) (tab (in_table t B) B.count)) c.before.before.labels.ensures in
+    c.decide_at-answer.ensures ∙ ap₂ (λ (at count : ℕ). answer_of (reason_at 8 at count ∷ [])) at (long ∙ sym (length-tab (labels_in t n) (labels_length n)))
 
-labels-length-requires : tie.Need-labels-length-requires
+labels-length-requires : tie.Need-labels_length-labels-requires
 labels-length-requires c κs = search rules
 
-cast-above : tie.Need-overflow-cast-above
+cast-above : tie.Need-overflow_cast-n
 cast-above c = search rules
 
-mul-above : tie.Need-overflow-mul-above
+mul-above : tie.Need-overflow_mul-n
 mul-above c = search rules
 
 labels-requires : tie.Need-labels-requires
 labels-requires c κs = search rules
 
-above-requires : tie.Need-above-requires
+above-requires : tie.Need-above-place-requires
 above-requires c κs = labels_fit _ _ _ c.before.before.before.requires c.labels.ensures
 
-decide-at-requires : tie.Need-decide-at-requires
+decide-at-requires : tie.Need-decide_at-answer-requires
 decide-at-requires c κs = search rules
 
-returns : tie.Need-returns
+returns : tie.Need-returns-then-number-ne0
 returns c =
     let s = c.before.before.before.before.before.before in
-    refused_first (first s) (second s) (omega arith, tt) _ (decided c.before) c.if1.true
+    refused_first (first s) (second s) (omega arith, tt) _ (decided c.before) c.if-number-ne0.true
 
-table-place-requires : tie.Need-table-place-requires
+table-place-requires : tie.Need-table_place-start-requires
 table-place-requires c κs = search rules
 
-unbound-row-requires : tie.Need-unbound-row-requires
+unbound-row-requires : tie.Need-unbound_row-row-requires
 unbound-row-requires c κs = search rules
 
-decide-at-requires-2 : tie.Need-decide-at-requires-2
+decide-at-requires-2 : tie.Need-decide_at-requires
 decide-at-requires-2 c κs = search rules
 
-returns-2 : tie.Need-returns-2
+returns-2 : tie.Need-returns
 returns-2 c =
     let s = c.before.before.before.before.before.before.before.before.before in
     let t = s.args.table.now in
     let l = s.args.l in
-    let row = c.before.unbound-row.ensures ∙ ap (λ (start : ℕ). unbound_in t start line_words 1 l) c.before.before.table-place.ensures ∙ unbound-table s.args.n t l (labelsOf s) s.requires.publics in
-    refused_later (first s) (second s) (omega arith, tt) _ _ (decided c.before.before.before.before) c.before.before.before.if1.false
-    (c.decide-at2.ensures ∙ ap (λ (at : ℕ). answer_of (reason_at 14 at l ∷ [])) row)
+    let row = c.before.unbound_row-row.ensures ∙ ap (λ (start : ℕ). unbound_in t start line_words 1 l) c.before.before.table_place-start.ensures ∙ unbound-table s.args.n t l (labelsOf s) s.requires.publics in
+    refused_later (first s) (second s) (omega arith, tt) _ _ (decided c.before.before.before.before) c.before.before.before.if-number-ne0.false
+    (c.decide_at.ensures ∙ ap (λ (at : ℕ). answer_of (reason_at 14 at l ∷ [])) row)
 
-pub decide-circuit-spec : {M : Type 1} → statement M
-decide-circuit-spec =
+pub decide_circuit_spec : {M : Type 1} → statement M
+decide_circuit_spec =
     tie.close
     (tie.spec
     labels-length-requires

@@ -17,61 +17,61 @@ use Rattle.sheet.proofs.BlockLaws.{selectors_fit, witness_fit, publics_fit, chal
 use Rattle.sheet.proofs.numbers.elements.Statement.{statement}
 use Rattle.sheet.proofs.numbers.elements.Tie as tie
 
-selectors-length-requires : tie.Need-selectors-length-requires
+selectors-length-requires : tie.Need-selectors_length-selectors-requires
 selectors-length-requires c κs = search rules
 
-witness-length-requires : tie.Need-witness-length-requires
+witness-length-requires : tie.Need-witness_length-requires
 witness-length-requires c κs = search rules
 
-add-passed : tie.Need-overflow-add-passed
+add-passed : tie.Need-overflow_add-passed
 add-passed c = search rules
 
 selectors-requires : tie.Need-selectors-requires
 selectors-requires c κs = search rules
 
-above-requires : tie.Need-above-requires
+above-requires : tie.Need-above-a-requires
 above-requires c κs = selectors_fit _ _ _ c.before.before.before.before.requires.0 c.selectors.ensures
 
 witness-requires : tie.Need-witness-requires
 witness-requires c κs = search rules
 
-then-above-requires : tie.Need-then-above-requires
+then-above-requires : tie.Need-then_above-b-requires
 then-above-requires c κs =
     let pre = c.before.before.before.before.before.before.requires.0 in
     let block = c.witness.ensures in
-    (witness_fit _ _ _ pre block, omega (arith, pre.few, ap (λ (B : Block). B.count) block, c.before.before.before.before.selectors-length.ensures))
+    (witness_fit _ _ _ pre block, omega (arith, pre.few, ap (λ (B : Block). B.count) block, c.before.before.before.before.selectors_length-selectors.ensures))
 
 publics-requires : tie.Need-publics-requires
 publics-requires c κs = search rules
 
-then-above-requires-2 : tie.Need-then-above-requires-2
+then-above-requires-2 : tie.Need-then_above-c-requires
 then-above-requires-2 c κs =
     let pre = c.before.before.before.before.before.before.before.before.requires.0 in
     let block = c.publics.ensures in
-    (publics_fit _ _ _ pre block, omega (arith, pre.few, pre.publics, ap (λ (B : Block). B.count) block, c.before.before.before.before.before.witness-length.ensures, c.before.before.before.before.before.before.selectors-length.ensures))
+    (publics_fit _ _ _ pre block, omega (arith, pre.few, pre.publics, ap (λ (B : Block). B.count) block, c.before.before.before.before.before.witness_length.ensures, c.before.before.before.before.before.before.selectors_length-selectors.ensures))
 
-add-then-above : tie.Need-overflow-add-then-above
+add-then-above : tie.Need-overflow_add-passed-2
 add-then-above c = search rules
 
 challenges-requires : tie.Need-challenges-requires
 challenges-requires c κs = search rules
 
-then-above-requires-3 : tie.Need-then-above-requires-3
+then-above-requires-3 : tie.Need-then_above-d-requires
 then-above-requires-3 c κs =
     let pre = c.before.before.before.before.before.before.before.before.before.before.requires.0 in
     let block = c.challenges.ensures in
-    (challenges_fit _ _ _ pre block, omega (arith, pre.few, pre.publics, ap (λ (B : Block). B.count) block, c.before.before.before.before.before.before.before.witness-length.ensures, c.before.before.before.before.before.before.before.before.selectors-length.ensures))
+    (challenges_fit _ _ _ pre block, omega (arith, pre.few, pre.publics, ap (λ (B : Block). B.count) block, c.before.before.before.before.before.before.before.witness_length.ensures, c.before.before.before.before.before.before.before.before.selectors_length-selectors.ensures))
 
 -- the elements before the challenges are few
-few : (c : tie.After-then-above3) → c.before.before.before.before.before.before.before.before.before.selectors-length.result + c.before.before.before.before.before.before.before.before.witness-length.result + c.before.before.before.before.before.before.before.before.before.before.before.args.l ≤ (selector_count + 4) * sheet_rows
+few : (c : tie.After-then_above-d) → c.before.before.before.before.before.before.before.before.before.selectors_length-selectors.result + c.before.before.before.before.before.before.before.before.witness_length.result + c.before.before.before.before.before.before.before.before.before.before.before.args.l ≤ (selector_count + 4) * sheet_rows
 few c =
     let pre = c.before.before.before.before.before.before.before.before.before.before.before.requires.0 in
-    omega (arith, pre.few, pre.publics, c.before.before.before.before.before.before.before.before.witness-length.ensures, c.before.before.before.before.before.before.before.before.before.selectors-length.ensures)
+    omega (arith, pre.few, pre.publics, c.before.before.before.before.before.before.before.before.witness_length.ensures, c.before.before.before.before.before.before.before.before.before.selectors_length-selectors.ensures)
 
-add-behind : tie.Need-overflow-add-behind
+add-behind : tie.Need-overflow_add-behind
 add-behind c = omega (arith, few c)
 
-add-behind-2 : tie.Need-overflow-add-behind-2
+add-behind-2 : tie.Need-overflow_add-behind-2
 add-behind-2 c = omega (arith, few c)
 
 blinders-requires : tie.Need-blinders-requires
@@ -79,19 +79,19 @@ blinders-requires c κs =
     let pre = c.before.before.before.before.before.before.before.before.before.before.before.requires in
     (pre.1, pre.0.few, pre.0.publics)
 
-then-above-requires-4 : tie.Need-then-above-requires-4
+then-above-requires-4 : tie.Need-then_above-requires
 then-above-requires-4 c κs =
     let s = c.before.before.before.before.before.before.before.before.before.before.before.before in
     let pre = s.requires.0 in
     let block = c.blinders.ensures in
-    (blinders_fit _ _ _ pre s.args.e s.requires.1 block, omega (arith, pre.few, pre.publics, s.requires.1, ap (λ (B : Block). B.count) block, c.before.before.before.before.before.before.before.before.before.witness-length.ensures, c.before.before.before.before.before.before.before.before.before.before.selectors-length.ensures))
+    (blinders_fit _ _ _ pre s.args.e s.requires.1 block, omega (arith, pre.few, pre.publics, s.requires.1, ap (λ (B : Block). B.count) block, c.before.before.before.before.before.before.before.before.before.witness_length.ensures, c.before.before.before.before.before.before.before.before.before.before.selectors_length-selectors.ensures))
 
 returns : tie.Need-returns
 returns c =
     let a = c.before.before.before.before.before.before.before.before.before.before.before.before.before.args in
     let t = a.table.now in
-    let s = c.before.before.before.before.before.before.before.before.before.before.before.selectors-length in
-    let w = c.before.before.before.before.before.before.before.before.before.before.witness-length in
+    let s = c.before.before.before.before.before.before.before.before.before.before.before.selectors_length-selectors in
+    let w = c.before.before.before.before.before.before.before.before.before.before.witness_length in
     let selectors = c.before.before.before.before.before.before.before.before.before.selectors in
     let witness = c.before.before.before.before.before.before.before.witness in
     let publics = c.before.before.before.before.before.publics in
@@ -109,14 +109,14 @@ returns c =
     let long-two : s.result + w.result ≡ length two = rw (s.ensures, w.ensures) (simp (length-append, length-tab) (rw (selectors.ensures, witness.ensures))) in
     let long-three : s.result + w.result + a.l ≡ length three = rw (s.ensures, w.ensures) (simp (length-append, length-tab) (rw (selectors.ensures, witness.ensures, publics.ensures))) in
     let long-four : s.result + w.result + a.l + challenge_count ≡ length four = rw (s.ensures, w.ensures) (simp (length-append, length-tab) (rw (selectors.ensures, witness.ensures, publics.ensures, challenges.ensures))) in
-    let at_two = further a.p one next _ _ _ c.before.before.before.before.before.before.before.before.above.ensures long-one c.before.before.before.before.before.before.then-above.ensures in
-    let at-three = further a.p two inputs _ _ _ at_two long-two c.before.before.before.before.then-above2.ensures in
-    let at-four = further a.p three drawn _ _ _ at-three long-three c.before.before.then-above3.ensures in
-    further a.p four last _ _ _ at-four long-four c.then-above4.ensures
+    let at_two = further a.p one next _ _ _ c.before.before.before.before.before.before.before.before.above-a.ensures long-one c.before.before.before.before.before.before.then_above-b.ensures in
+    let at-three = further a.p two inputs _ _ _ at_two long-two c.before.before.before.before.then_above-c.ensures in
+    let at-four = further a.p three drawn _ _ _ at-three long-three c.before.before.then_above-d.ensures in
+    further a.p four last _ _ _ at-four long-four c.then_above.ensures
     ∙ ap (first_above a.p) (rw (selectors.ensures, witness.ensures, publics.ensures, challenges.ensures, blinders.ensures) (simp append_assoc))
 
-pub elements-spec : {M : Type 1} → statement M
-elements-spec =
+pub elements_spec : {M : Type 1} → statement M
+elements_spec =
     tie.close
     (tie.spec
     selectors-length-requires
