@@ -1,7 +1,7 @@
 -- Blocks of the table: that they fit, and what is laid out of them.
 --
--- columns-fit, rows_fit   a block fits where its lines and fields do
--- selectors-fit, labels-fit, witness-fit, publics-fit, challenges-fit, blinders-fit   the blocks that are lent
+-- columns_fit, rows_fit   a block fits where its lines and fields do
+-- selectors_fit, labels_fit, witness_fit, publics_fit, challenges_fit, blinders_fit   the blocks that are lent
 -- count_room       a block that is a known one has as many numbers as that has
 -- laid_block       what is laid out of it is what is laid out of that one
 -- stopped          a table of numbers that stop at `count` is those numbers, and zeros behind them

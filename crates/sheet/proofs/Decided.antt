@@ -1,15 +1,15 @@
 -- The reasons of `read` in parts, and what is known where none applies.
 --
--- first-long, first-bad, first_read   the reason 1: the sheet is too long; the first line is out of form; it was read
+-- first_long, first_bad, first_read   the reason 1: the sheet is too long; the first line is out of form; it was read
 -- three            the words of the first line
--- lines-bad, lines-extra, lines-right   the reason of the lines behind it: one is out of form; one is extra; neither
--- front-bad, rest-bad   which line is out of form: one up to the challenges; none of these, so it is looked for behind them
+-- lines_bad, lines_extra, lines_right   the reason of the lines behind it: one is out of form; one is extra; neither
+-- front_bad, rest_bad   which line is out of form: one up to the challenges; none of these, so it is looked for behind them
 -- blinded_at       whether a line of blinders is there, by where that of the challenges ends
 -- table_reasons    the reasons of the numbers, read off the table
 -- full_of          the table has room for the lines of the n and l that the reasons leave
 -- begun            what reading the lines behind the first asks
 -- behind           where the first line was read, the reasons behind its own answer for all
--- refused_as, accepted-as   the two answers of deciding
+-- refused_as, accepted_as   the two answers of deciding
 -- roomy            the lent buffers have the lengths due, where the reason of the lengths does not apply
 --
 -- Assumes nothing.

@@ -6,7 +6,7 @@
 -- prime_line s            1, 2 and 16: the reasons of a new sheet's first line up to that of its prime
 -- Decides s reasons r t  what deciding by these reasons promises of its answer r and of the table t
 -- found                  p, n and l are those of the sheet, where none applies
--- first-numbers, read-numbers   no reason of the first line has number 0, and none at all, where none of the lengths has
+-- first_numbers, read_numbers   no reason of the first line has number 0, and none at all, where none of the lengths has
 -- Taken s                what is known of a sheet where no reason applies
 -- taken_of               an answer with number 0 means that it holds, and that no reason of the lengths applies
 -- without_lengths        where no reason of the lengths applies, the answer is that of the reasons behind them

@@ -1,10 +1,10 @@
 -- How many numbers a line of a sheet has, and how many lines of blinders there are.
 --
--- due-circuit, due-witness, due-publics, due-challenges, due-blinders   by where it stands
+-- due_circuit, due_witness, due_publics, due_challenges, due_blinders   by where it stands
 -- picked              what holds of both of two things holds of the one that a test picks
 -- blinded_most        at most one line of blinders is there
 -- blinded_lines       how many are, where it is known whether one is
--- some-due, due-most  every line has a number, and at most as many as the table has words for it
+-- some_due, due_most  every line has a number, and at most as many as the table has words for it
 --
 -- Assumes nothing.
 use Rattle.std.specs.Prelude.{◌≡◌, Bool, true, false, cond, List, ℕ, ◌+◌, ◌≤◌, ◌<◌, eqb, leb}

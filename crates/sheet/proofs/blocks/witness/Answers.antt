@@ -1,7 +1,6 @@
 -- `sheet::blocks::witness` meets its contract: the block has as many numbers as are lent. Assumes nothing.
 use mathlib.Core.Path.{ap, ◌∙◌}
 use Prim.Native.Nat.{◌+◌}
-use borrow.Author.Rules.{rules}
 use Rattle.sheet.specs.Table.{row_block}
 use Rattle.sheet.proofs.blocks.witness.Goals as goal
 

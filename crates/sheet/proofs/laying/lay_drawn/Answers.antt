@@ -5,7 +5,6 @@ use Prim.Native.Nat.{◌≤◌}
 use native.Mathlib.Omega.{arith}
 use lib.ListN.{length, take}
 use lib.Seq.{length-take-le}
-use borrow.Author.Rules.{rules}
 use Rattle.algebra.specs.Ends.{rest_length, both_parts}
 use Rattle.algebra.specs.Lists.{tab}
 use Rattle.circuit.specs.Buffers.{blinder_count}
@@ -20,8 +19,7 @@ fits : (c : Start) → challenge_count ≤ length c.args.out.now
 fits c = omega (arith, c.requires.2)
 
 front : (c : Start) → length (take challenge_count c.args.out.now) ≡ challenge_count
-front c =
-    length-take-le challenge_count c.args.out.now ((let it : challenge_count ≤ length c.args.out.now = omega (arith, c.requires.2) in it))
+front c = length-take-le challenge_count c.args.out.now (fits c)
 
 pub slice_bounds-lay-end-2 : goal.slice_bounds-lay-end-2
 slice_bounds-lay-end-2 c = sym (front (goal.at.slice_bounds-lay-end-2 c).Start)

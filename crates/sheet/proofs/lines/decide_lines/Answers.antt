@@ -1,7 +1,6 @@
 -- `sheet::lines::decide_lines` meets its contract: the lines up to the challenges, then the rest. Assumes nothing.
 use mathlib.Core.Path.{◌≡◌, sym, ap, ◌∙◌}
 use native.Mathlib.Omega.{arith}
-use borrow.Author.Rules.{rules}
 use Rattle.field.specs.declared.Answer.{Answer}
 use Rattle.sheet.specs.Sheet.{plain_lines}
 use Rattle.sheet.proofs.LineLaws.{bad_le}

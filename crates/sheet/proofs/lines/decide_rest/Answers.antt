@@ -2,7 +2,6 @@
 use mathlib.Core.Path.{◌≡◌, refl, ap, ◌∙◌}
 use Prim.Native.Nat.{◌≤◌}
 use native.Mathlib.Omega.{arith}
-use borrow.Author.Rules.{rules}
 use Rattle.field.specs.declared.Answer.{Answer}
 use Rattle.sheet.specs.Sheet.{plain_lines, lines_due, sheet_blinded, bad_line}
 use Rattle.sheet.specs.Table.{table_lines}
@@ -12,17 +11,17 @@ use Rattle.sheet.proofs.Decided.{lines_bad, lines_extra, lines_right, rest_bad, 
 use Rattle.sheet.proofs.lines.decide_rest.Goals as goal
 use Rattle.sheet.proofs.lines.decide_rest.Goals.{After-blinder_lines, After-read_lines-found}
 
+-- how many lines of blinders are there, and that all lines fit into the table
 lines : (c : After-blinder_lines) → c.blinder_lines.result ≡ sheet_blinded c.args.s.now c.args.n c.args.l
 lines c =
     blinded_lines c.args.s.now c.args.n c.args.l _ _ (blinded_at c.args.s.now c.args.n c.args.l _ _ c.requires.0.starts refl) c.blinder_lines.ensures
 
 fits : (c : After-blinder_lines) → lines_due c.blinder_lines.result c.args.n c.args.l ≤ table_lines
-fits c =
-    omega (arith, (let it : c.blinder_lines.result ≤ 1 = omega (arith, (let it : c.blinder_lines.result ≡ sheet_blinded c.args.s.now c.args.n c.args.l = blinded_lines c.args.s.now c.args.n c.args.l _ _ (blinded_at c.args.s.now c.args.n c.args.l _ _ c.requires.0.starts refl) c.blinder_lines.ensures in it), blinded_most c.args.s.now c.args.n c.args.l) in it), c.requires.0.full.few, c.requires.0.full.publics)
+fits c = omega (arith, lines c, blinded_most c.args.s.now c.args.n c.args.l, c.requires.0.full.few, c.requires.0.full.publics)
 
+-- the line that reading stopped at, which is at most the last
 stopped : (c : After-read_lines-found) → c.read_lines-found.result.bad ≡ bad_line c.args.s.now c.args.n c.args.l
-stopped c =
-    rest_bad c.args.s.now c.args.n c.args.l _ c.requires.1 _ ((let it : c.blinder_lines.result ≡ sheet_blinded c.args.s.now c.args.n c.args.l = blinded_lines c.args.s.now c.args.n c.args.l _ _ (blinded_at c.args.s.now c.args.n c.args.l _ _ c.requires.0.starts refl) c.blinder_lines.ensures in it)) c.read_lines-found.ensures.bad_value
+stopped c = rest_bad c.args.s.now c.args.n c.args.l _ c.requires.1 _ (blinded_lines c.args.s.now c.args.n c.args.l _ _ (blinded_at c.args.s.now c.args.n c.args.l _ _ c.requires.0.starts refl) c.blinder_lines.ensures) c.read_lines-found.ensures.bad_value
 
 low : (c : After-read_lines-found) → c.read_lines-found.result.bad ≤ lines_due c.blinder_lines.result c.args.n c.args.l
 low c =

@@ -9,8 +9,7 @@ use borrow.Author.Rules.{rules}
 use borrow.Author.Tests.{not-false}
 use borrow.Rule.Slice.PartMut.{mid_of, put_mid, same_len_mid}
 use Rattle.algebra.specs.Search.{first_stop, first_skip, first_end}
-use Rattle.sheet.specs.Sheet.{line_at, bad_from}
-use Rattle.sheet.specs.Table.{line_words, table_lines, Held}
+use Rattle.sheet.specs.Table.{line_words, table_lines}
 use Rattle.sheet.specs.Due.{some_due, due_most}
 use Rattle.sheet.proofs.LineLaws.{line_is, held_more, next_start, part_long}
 use Rattle.sheet.proofs.lines.read_lines.Goals as goal
@@ -24,11 +23,11 @@ low c = omega (arith, c.requires.2, c.loop-i-test.true)
 
 fits : (c : After-table_place-to) → c.table_place-to.result ≤ length c.loop-i.table
 fits c =
-    omega (arith, (let it : c.fields_due-k.result ≤ line_words = omega (arith, c.fields_due-k.ensures, due_most c.args.n c.args.l c.loop-i.i) in it), (let it : c.loop-i.i < table_lines = omega (arith, c.requires.2, c.loop-i-test.true) in it), c.table_place-to.ensures, c.loop-i.invariant.6, c.requires.0.full.long)
+    omega (arith, c.fields_due-k.ensures, due_most c.args.n c.args.l c.loop-i.i, c.requires.2, c.loop-i-test.true, c.table_place-to.ensures, c.loop-i.invariant.6, c.requires.0.full.long)
 
 long : (c : After-table_place-to) → length (mid_of c.table_place-from.result (c.table_place-to.result - c.table_place-from.result) c.loop-i.table) ≡ c.fields_due-k.result
 long c =
-    part_long c.table_place-from.result c.table_place-to.result c.fields_due-k.result c.loop-i.table (omega (arith, c.table_place-from.ensures, c.table_place-to.ensures)) ((let it : c.table_place-to.result ≤ length c.loop-i.table = omega (arith, (let it : c.fields_due-k.result ≤ line_words = omega (arith, c.fields_due-k.ensures, due_most c.args.n c.args.l c.loop-i.i) in it), (let it : c.loop-i.i < table_lines = omega (arith, c.requires.2, c.loop-i-test.true) in it), c.table_place-to.ensures, c.loop-i.invariant.6, c.requires.0.full.long) in it))
+    part_long c.table_place-from.result c.table_place-to.result c.fields_due-k.result c.loop-i.table (omega (arith, c.table_place-from.ensures, c.table_place-to.ensures)) (fits c)
 
 -- the table keeps its length; the line was read as line i
 kept : (c : After-line-line) → length (put_mid c.table_place-from.result (c.table_place-to.result - c.table_place-from.result) c.loop-i.table c.line-line.new.out) ≡ length c.args.table.now
