@@ -41,5 +41,5 @@ module _ (p n : ℕ) (prepared transcript list evaluations opening challenges sc
         C.evaluations_length,
         C.opening_length_lem,
         C.challenges_length,
-        L.List-right.few,
+        L.list_right.few,
       )

@@ -7,7 +7,7 @@
 -- Assumes nothing.
 use Rattle.std.specs.Prelude.{◌≡◌, refl, Bool, true, false, cond, ◌||◌, List, [], ℕ, ◌-◌, ◌≤◌, eqb, ltb, length, take, drop}
 use Rattle.std.proofs.Common.{◌∙◌, arith, length-drop, take_all}
-use Rattle.std.proofs.Math.Bool.{or_true}
+use Rattle.std.proofs.Math.Bool.{or-true}
 use Rattle.std.specs.Borrow.{Bor}
 use Rattle.field.specs.Fields.{is_rows, Admissible}
 use Rattle.field.specs.Primes.{by_field, rows-power}
@@ -23,8 +23,8 @@ unfolding any_rows
 any_rows_lem {p} {n} A =
     by_field (λ (p : ℕ). is_rows p n ≡ true → (is_rows 17 n || is_rows 97 n || is_rows 2013265921 n) ≡ true)
     (λ h. rw h)
-    (λ h. rw (h, or_true (is_rows 17 n)))
-    (λ h. rw h (or_true (is_rows 17 n || is_rows 97 n)))
+    (λ h. rw (h, or-true (is_rows 17 n)))
+    (λ h. rw h (or-true (is_rows 17 n || is_rows 97 n)))
     p
     A.one_of_three
     A.rows

@@ -10,25 +10,25 @@ use borrow.Author.Rules.{rules}
 use Rattle.opening.proofs.decide.decide_elements.Statement.{statement}
 use Rattle.opening.proofs.decide.decide_elements.Tie as tie
 
-first-of-four-requires : tie.Need-first-of-four-requires
+first-of-four-requires : tie.Need-first_of_four-at-requires
 first-of-four-requires c κs = search rules
 
-add-passed : tie.Need-overflow-add-passed
+add-passed : tie.Need-overflow_add-passed
 add-passed c = search rules
 
-add-passed-2 : tie.Need-overflow-add-passed-2
+add-passed-2 : tie.Need-overflow_add-passed-2
 add-passed-2 c = search rules
 
-add-passed-3 : tie.Need-overflow-add-passed-3
+add-passed-3 : tie.Need-overflow_add-passed-3
 add-passed-3 c = search rules
 
-then-above-requires : tie.Need-then-above-requires
+then-above-requires : tie.Need-then_above-last-requires
 then-above-requires c κs = search rules
 
-add-decide-at : tie.Need-overflow-add-decide-at
+add-decide-at : tie.Need-overflow_add-passed-4
 add-decide-at c = search rules
 
-decide-at-requires : tie.Need-decide-at-requires
+decide-at-requires : tie.Need-decide_at-requires
 decide-at-requires c κs = search rules
 
 returns : tie.Need-returns
@@ -39,13 +39,13 @@ returns c =
     let passed = length a.prepared.now + length a.transcript.now + length a.evaluations.now + length a.opening.now in
     let long-four : passed ≡ length four = simp length-append (omega arith) in
     let long : passed + length a.challenges.now ≡ length all = simp length-append (omega arith) in
-    let place : c.before.then-above.result ≡ first_above a.p all =
-    further a.p four a.challenges.now _ _ _ c.before.before.first-of-four.ensures long-four c.before.then-above.ensures
+    let place : c.before.then_above-last.result ≡ first_above a.p all =
+    further a.p four a.challenges.now _ _ _ c.before.before.first_of_four-at.ensures long-four c.before.then_above-last.ensures
     ∙ ap (first_above a.p) (simp append_assoc) in
-    c.decide-at.ensures ∙ ap₂ (λ (at count : ℕ). answer_of (reason_at 7 at count ∷ [])) place long
+    c.decide_at.ensures ∙ ap₂ (λ (at count : ℕ). answer_of (reason_at 7 at count ∷ [])) place long
 
-pub decide-elements-spec : {M : Type 1} → statement M
-decide-elements-spec =
+pub decide_elements_spec : {M : Type 1} → statement M
+decide_elements_spec =
     tie.close
     (tie.spec
     first-of-four-requires

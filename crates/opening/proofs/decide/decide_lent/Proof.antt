@@ -23,45 +23,45 @@ due s = opening_due (blinded_by s.args.n s.args.transcript.now) s.args.n (length
 abbrev rest : tie.Start → List Reason
 rest s = list_reasons s.args.list.now
 
-abbrev start : tie.After-decide-lent → tie.Start
+abbrev start : tie.After-decide_lent-answer → tie.Start
 start c = c.before.before.before.before.before.before.before.before.before.before.before.before
 
-all-due : (c : tie.After-decide-lent) → c.before.before.before.lengths-due.result ≡ due (start c)
+all-due : (c : tie.After-decide_lent-answer) → c.before.before.before.lengths_due-due.result ≡ due (start c)
 all-due c =
     let s = start c in
-    c.before.before.before.lengths-due.ensures ∙ ap (λ (e : ℕ). opening_due e s.args.n (length s.args.list.now)) c.before.before.before.before.blinded-by.ensures.0
+    c.before.before.before.lengths_due-due.ensures ∙ ap (λ (e : ℕ). opening_due e s.args.n (length s.args.list.now)) c.before.before.before.before.blinded_by-e.ensures.0
 
-blinded-by-requires : tie.Need-blinded-by-requires
+blinded-by-requires : tie.Need-blinded_by-e-requires
 blinded-by-requires c κs = search rules
 
-lengths-due-requires : tie.Need-lengths-due-requires
+lengths-due-requires : tie.Need-lengths_due-due-requires
 lengths-due-requires c κs = search rules
 
-slice-aggregate-decide-lent : tie.Need-slice-aggregate-decide-lent
+slice-aggregate-decide-lent : tie.Need-slice_bounds-decide_lent-end
 slice-aggregate-decide-lent c = search rules
 
-slice-aggregate-decide-lent-2 : tie.Need-slice-aggregate-decide-lent-2
+slice-aggregate-decide-lent-2 : tie.Need-slice_bounds-decide_lent-end-2
 slice-aggregate-decide-lent-2 c = search rules
 
-decide-lent-requires : tie.Need-decide-lent-requires
+decide-lent-requires : tie.Need-decide_lent-answer-requires
 decide-lent-requires c κs = search rules
 
-returns : tie.Need-returns
+returns : tie.Need-returns-then-number-ne0
 returns c =
     let s = start c.before in
-    lent_refused s.args.p s.args.n 0 (long s) (due s) (rest s) (all-due c.before) c.before.decide-lent.ensures c.if1.true
+    lent_refused s.args.p s.args.n 0 (long s) (due s) (rest s) (all-due c.before) c.before.decide_lent-answer.ensures c.if-number-ne0.true
 
-decide-list-requires : tie.Need-decide-list-requires
+decide-list-requires : tie.Need-decide_list-requires
 decide-list-requires c κs = search rules
 
-returns-2 : tie.Need-returns-2
+returns-2 : tie.Need-returns
 returns-2 c =
     let d = c.before.before in
     let s = start d in
-    lent_later s.args.p s.args.n 0 (long s) (due s) (rest s) (all-due d) d.decide-lent.ensures c.before.if1.false c.decide-list.ensures
+    lent_later s.args.p s.args.n 0 (long s) (due s) (rest s) (all-due d) d.decide_lent-answer.ensures c.before.if-number-ne0.false c.decide_list.ensures
 
-pub decide-lent-spec : {M : Type 1} → statement M
-decide-lent-spec =
+pub decide_lent_spec : {M : Type 1} → statement M
+decide_lent_spec =
     tie.close
     (tie.spec
     blinded-by-requires

@@ -13,32 +13,32 @@ use Rattle.opening.proofs.decide.decide_list.Tie as tie
 refused-requires : tie.Need-refused-requires
 refused-requires c κs = search rules
 
-returns : tie.Need-returns
-returns c = rw (eq-eqb _ 0 c.before.if1.true) c.refused.ensures
+returns : tie.Need-returns-then-k-eq0
+returns c = rw (eq-eqb _ 0 c.before.if-k-eq0.true) c.refused.ensures
 
-refused-requires-2 : tie.Need-refused-requires-2
+refused-requires-2 : tie.Need-refused-requires-then-k-gt-POLYNOMIAL_COUNT
 refused-requires-2 c κs = search rules
 
-returns-2 : tie.Need-returns-2
-returns-2 c = rw (ne_eqb _ 0 c.before.before.if1.false, lt-ltb polynomial_count _ c.before.if2.true) c.refused2.ensures
+returns-2 : tie.Need-returns-then-k-gt-POLYNOMIAL_COUNT
+returns-2 c = rw (ne_eqb _ 0 c.before.before.if-k-eq0.false, lt-ltb polynomial_count _ c.before.if-k-gt-POLYNOMIAL_COUNT.true) c.refused-then-k-gt-POLYNOMIAL_COUNT.ensures
 
-cast-first-above : tie.Need-overflow-cast-first-above
+cast-first-above : tie.Need-overflow_cast-first_above
 cast-first-above c = search rules
 
-first-above-requires : tie.Need-first-above-requires
+first-above-requires : tie.Need-first_above-requires
 first-above-requires c κs = search rules
 
-decide-at-requires : tie.Need-decide-at-requires
+decide-at-requires : tie.Need-decide_at-requires
 decide-at-requires c κs = search rules
 
-returns-3 : tie.Need-returns-3
+returns-3 : tie.Need-returns
 returns-3 c =
     let list = c.before.before.before.before.before.args.list.now in
-    rw (ne_eqb _ 0 c.before.before.before.if1.false, le-ltb polynomial_count _ c.before.before.if2.false)
-    (c.decide-at.ensures ∙ ap (λ (at : ℕ). answer_of (reason_at 13 at (length list) ∷ [])) c.before.first_above.ensures)
+    rw (ne_eqb _ 0 c.before.before.before.if-k-eq0.false, le-ltb polynomial_count _ c.before.before.if-k-gt-POLYNOMIAL_COUNT.false)
+    (c.decide_at.ensures ∙ ap (λ (at : ℕ). answer_of (reason_at 13 at (length list) ∷ [])) c.before.first_above.ensures)
 
-pub decide-list-spec : {M : Type 1} → statement M
-decide-list-spec =
+pub decide_list_spec : {M : Type 1} → statement M
+decide_list_spec =
     tie.close
     (tie.spec
     refused-requires
