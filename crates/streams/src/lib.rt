@@ -5,7 +5,18 @@
 ghost use Rattle.io.specs.Counts.{IsPrefixLen};
 ghost use Rattle.streams.specs.Got.{bytes_of};
 
-use libc::{STDERR_FILENO, STDIN_FILENO, STDOUT_FILENO};
+use std::env::{Env, FillError};
+use std::fmt;
+use std::fmt::Write;
+use std::fs::File;
+use std::io::{Error, Print, Read};
+
+// The system's numbers of three errors: no such argument, a name that is too long, and one that is no text.
+const EINVAL: i32 = 22;
+
+const ENAMETOOLONG: i32 = 36;
+
+const EILSEQ: i32 = 84;
 
 // What reading gave: so many bytes, where the input ended or the room for it; or it failed, which is told.
 #[derive(Drop)]
@@ -14,25 +25,61 @@ pub enum Got {
     Failed,
 }
 
-// Reads once from a descriptor, to the start of `out`: no bytes where the input ends. A failure is told under this name.
-fn read_some(fd: i32, name: &[u8], out: &mut [u8]) -> Got
+// Writes the system's word for an error to standard error, without its number, which std writes behind it.
+#[derive(Drop)]
+struct Word {
+    rt: HostRuntime,
+    is_written: bool,
+}
+
+impl fmt::Write for Word {
+    fn write_str(&mut self, text: &str) -> fmt::Result {
+        if self.is_written {
+            return Ok(());
+        }
+        match text.split_once(" (os error ") {
+            Some((word, _)) => {
+                self.is_written = true;
+                tell(self.rt, word.as_bytes());
+            }
+            None => tell(self.rt, text.as_bytes()),
+        }
+        Ok(())
+    }
+}
+
+// Writes a line to standard error: what failed, a colon and the system's word for it.
+fn fail(rt: HostRuntime, what: &[u8], error: Error) {
+    tell(rt, what);
+    tell(rt, b": ");
+    let mut word = Word {
+        rt,
+        is_written: false,
+    };
+    let _ = write!(word, "{error}");
+    tell(rt, b"\n");
+}
+
+// Reads once, to the start of `out`: no bytes where the input ends. A failure is told under this name.
+fn read_some<R: Read>(rt: HostRuntime, from: &mut R, name: &[u8], out: &mut [u8]) -> Got
     ensures { IsPrefixLen (bytes_of result) out.new }
 {
-    let got = libc::read(fd, out);
-    if got < 0 {
-        os::fail(name);
-        return Got::Failed;
+    match from.read(out) {
+        Ok(n) => Got::Bytes(n),
+        Err(error) => {
+            fail(rt, name, error);
+            Got::Failed
+        }
     }
-    Got::Bytes(io::count(got, out))
 }
 
 // Reads till the input ends or there is no more room.
-fn read_all(fd: i32, name: &[u8], out: &mut [u8]) -> Got
+fn read_all<R: Read>(rt: HostRuntime, from: &mut R, name: &[u8], out: &mut [u8]) -> Got
     ensures { IsPrefixLen (bytes_of result) out.new }
 {
     let mut done = 0;
     while done < out.len() {
-        let Got::Bytes(more) = read_some(fd, name, &mut out[done..]) else {
+        let Got::Bytes(more) = read_some(rt, from, name, &mut out[done..]) else {
             return Got::Failed;
         };
         if more == 0 {
@@ -44,49 +91,85 @@ fn read_all(fd: i32, name: &[u8], out: &mut [u8]) -> Got
 }
 
 // Reads standard input.
-pub fn read_input(out: &mut [u8]) -> Got
+pub fn read_input(rt: HostRuntime, out: &mut [u8]) -> Got
     ensures { IsPrefixLen (bytes_of result) out.new }
 {
-    read_all(STDIN_FILENO, b"standard input", out)
+    let mut input = rt.stdin();
+    read_all(rt, &mut input, b"standard input", out)
+}
+
+// The file of this name, opened to be read.
+fn open(rt: HostRuntime, name: &[u8]) -> Result<File, Error> {
+    match std::str::from_utf8(name) {
+        Ok(path) => File::open(&rt, path),
+        Err(_) => Err(Error::from_raw_os_error(EILSEQ)),
+    }
 }
 
 // Reads the file of this name.
-pub fn read_named(name: &[u8], out: &mut [u8]) -> Got
+pub fn read_named(rt: HostRuntime, name: &[u8], out: &mut [u8]) -> Got
     ensures { IsPrefixLen (bytes_of result) out.new }
 {
-    let fd = os::open_read(name);
-    if fd < 0 {
-        os::fail(name);
-        return Got::Failed;
+    match open(rt, name) {
+        Ok(mut file) => read_all(rt, &mut file, name, out),
+        Err(error) => {
+            fail(rt, name, error);
+            Got::Failed
+        }
     }
-    let got = read_all(fd, name, out);
-    libc::close(fd);
-    got
 }
 
 // Reads the file that argument i names.
-pub fn read_file(i: usize, out: &mut [u8]) -> Got
+pub fn read_file(rt: HostRuntime, i: usize, out: &mut [u8]) -> Got
     ensures { IsPrefixLen (bytes_of result) out.new }
 {
     let mut name = io::buffer();
-    let n = os::arg(i, &mut name);
-    if os::errno() != 0 {
-        os::fail(b"the name of a file");
-        return Got::Failed;
+    match rt.arg(i, &mut name) {
+        Ok(n) => read_named(rt, &name[..n], out),
+        Err(reason) => {
+            let number = match reason {
+                FillError::NotPresent => EINVAL,
+                FillError::TooLong => ENAMETOOLONG,
+            };
+            fail(rt, b"the name of a file", Error::from_raw_os_error(number));
+            Got::Failed
+        }
     }
-    read_named(&name[..n], out)
 }
 
 // Writes all of a text to standard output, and answers whether it could.
-pub fn print(text: &[u8]) -> bool {
-    let is_written = io::write_all(STDOUT_FILENO, text);
-    if !is_written {
-        os::fail(b"standard output");
+pub fn print(rt: HostRuntime, text: &[u8]) -> bool {
+    match rt.write_all(text) {
+        Ok(()) => true,
+        Err(error) => {
+            fail(rt, b"standard output", error);
+            false
+        }
     }
-    is_written
 }
 
 // Writes a line to standard error.
-pub fn tell(line: &[u8]) {
-    io::write_all(STDERR_FILENO, line);
+pub fn tell(rt: HostRuntime, line: &[u8]) {
+    let _ = Print::write_all(&rt.stderr(), line);
+}
+
+// How many arguments there are, the program's name among them.
+pub fn arg_count(rt: HostRuntime) -> usize {
+    let mut start = [0u8; 1];
+    for i in 0..usize::MAX {
+        if let Err(FillError::NotPresent) = rt.arg(i, &mut start) {
+            return i;
+        }
+    }
+    usize::MAX
+}
+
+// Puts argument i at the start of `out`: how long it is, or 0 where there is none or it is longer than `out`.
+pub fn arg(rt: HostRuntime, i: usize, out: &mut [u8]) -> usize
+    ensures { IsPrefixLen result out.new }
+{
+    match rt.arg(i, out) {
+        Ok(n) => n,
+        Err(_) => 0,
+    }
 }
