@@ -86,30 +86,30 @@ fn used(xs: &[u32]) -> usize
 }
 
 // The line of a buffer that a call may write: `kept` where it is as it was, `zeros` where all its words are 0, its words else.
-fn outcome(xs: &[u32], was: &[u32]) {
+fn outcome(rt: HostRuntime, xs: &[u32], was: &[u32]) {
     if same(xs, was, 0) {
-        print(b"kept\n");
+        print(rt, b"kept\n");
     } else if used(xs) == 0 {
-        print(b"zeros\n");
+        print(rt, b"zeros\n");
     } else {
-        print::numbers(xs);
-        print(b"\n");
+        print::numbers(rt, xs);
+        print(rt, b"\n");
     }
 }
 
 // The same of a buffer with room for more than a sheet has: zeros behind its numbers are not written out.
-fn outcome_filled(xs: &[u32], was: &[u32]) {
+fn outcome_filled(rt: HostRuntime, xs: &[u32], was: &[u32]) {
     let k = used(xs);
     if k == 0 || k == xs.len() {
-        outcome(xs, was);
+        outcome(rt, xs, was);
         return;
     }
-    print::numbers(&xs[..k]);
-    print(b",zeros behind\n");
+    print::numbers(rt, &xs[..k]);
+    print(rt, b",zeros behind\n");
 }
 
 // What became of the buffer of a line that is there, and of the words behind it, which were not lent.
-pub fn look(line: &[u8], filled: bool, words: &Room) {
+pub fn look(rt: HostRuntime, line: &[u8], filled: bool, words: &Room) {
     if line.len() == 0 {
         return;
     }
@@ -120,19 +120,19 @@ pub fn look(line: &[u8], filled: bool, words: &Room) {
     let i = within(xs, k);
     let j = within(was, k);
     if filled {
-        outcome_filled(&xs[..i], &was[..j]);
+        outcome_filled(rt, &xs[..i], &was[..j]);
     } else {
-        outcome(&xs[..i], &was[..j]);
+        outcome(rt, &xs[..i], &was[..j]);
     }
     if !same(xs, was, k) {
-        print(b"words behind a buffer are changed\n");
+        print(rt, b"words behind a buffer are changed\n");
     }
 }
 
 // A buffer that a call only reads is as it was, and so is the room behind it.
-pub fn hold(line: &[u8], words: &Room) {
+pub fn hold(rt: HostRuntime, line: &[u8], words: &Room) {
     let was = laid(line);
     if !same(&words[..], &was[..], 0) {
-        print(b"a buffer that is only read is changed\n");
+        print(rt, b"a buffer that is only read is changed\n");
     }
 }

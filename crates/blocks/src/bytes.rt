@@ -28,45 +28,45 @@ fn within(xs: &[u8], k: usize) -> usize
 
 // The bytes of a line, at the start of a room of marks; how many are lent. A file that cannot be read gets a line that no expected
 // output has.
-fn lay(line: &[u8], out: &mut [u8]) -> usize {
+fn lay(rt: HostRuntime, line: &[u8], out: &mut [u8]) -> usize {
     if !lines::begins(line, b'@') {
         return buffers::marks(line);
     }
-    match streams::read_named(lines::rest(line), out) {
+    match streams::read_named(rt, lines::rest(line), out) {
         Got::Bytes(n) => n,
         Got::Failed => {
-            print(b"a file cannot be read\n");
+            print(rt, b"a file cannot be read\n");
             0
         }
     }
 }
 
 // How many bytes a line lends.
-fn count(line: &[u8]) -> usize {
+fn count(rt: HostRuntime, line: &[u8]) -> usize {
     let mut bytes = room();
-    lay(line, &mut bytes)
+    lay(rt, line, &mut bytes)
 }
 
 // The room of a line's buffer.
-pub fn laid(line: &[u8]) -> Room
+pub fn laid(rt: HostRuntime, line: &[u8]) -> Room
     ensures { 73728 ≡ length result }
 {
     let mut bytes = room();
-    lay(line, &mut bytes);
+    lay(rt, line, &mut bytes);
     bytes
 }
 
 // What is lent of a room to be read: the bytes of its line.
-pub fn part<'a>(bytes: &'a Room, line: &[u8]) -> &'a [u8] {
-    let k = count(line);
+pub fn part<'a>(rt: HostRuntime, bytes: &'a Room, line: &[u8]) -> &'a [u8] {
+    let k = count(rt, line);
     let xs = &bytes[..];
     let m = within(xs, k);
     &xs[..m]
 }
 
 // What is lent of a room to be written.
-pub fn lent<'a>(xs: &'a mut [u8], line: &[u8]) -> &'a mut [u8] {
-    let k = count(line);
+pub fn lent<'a>(rt: HostRuntime, xs: &'a mut [u8], line: &[u8]) -> &'a mut [u8] {
+    let k = count(rt, line);
     let m = within(xs, k);
     &mut xs[..m]
 }
@@ -98,20 +98,20 @@ fn used(xs: &[u8]) -> usize
 }
 
 // What became of a buffer that was marks, and of the room behind it: `kept`, or the text that it holds, with zeros behind it.
-pub fn look(line: &[u8], bytes: &Room) {
+pub fn look(rt: HostRuntime, line: &[u8], bytes: &Room) {
     let xs = &bytes[..];
     let k = within(xs, buffers::marks(line));
     let lent = &xs[..k];
     let text = used(lent);
     if all(lent, 0, MARK) {
-        print(b"kept\n");
+        print(rt, b"kept\n");
     } else if all(lent, text, 0) {
-        print(&lent[..text]);
-        print(b"zeros behind\n");
+        print(rt, &lent[..text]);
+        print(rt, b"zeros behind\n");
     } else {
-        print(b"neither a text nor zeros behind it\n");
+        print(rt, b"neither a text nor zeros behind it\n");
     }
     if !all(xs, k, MARK) {
-        print(b"bytes behind a buffer are changed\n");
+        print(rt, b"bytes behind a buffer are changed\n");
     }
 }
