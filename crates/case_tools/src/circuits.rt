@@ -9,7 +9,7 @@ use pointcheck::Judged;
 use rowcheck::{Identity, Verdict};
 
 // The numbers of a call, and whether the transcript is blinded.
-#[derive(Drop)]
+#[derive(Clone, Copy)]
 pub struct Shape {
     pub p: u32,
     pub n: u32,
@@ -117,10 +117,10 @@ pub fn prepared(s: Shape, words: &Words) -> Words {
 }
 
 // A line's start: a label, which says so where the transcript is blinded.
-pub fn label(text: &[u8], s: Shape) {
-    print::text(text);
+pub fn label(rt: HostRuntime, text: &[u8], s: Shape) {
+    print::text(rt, text);
     if s.blinded {
-        print::text(b", blinded");
+        print::text(rt, b", blinded");
     }
 }
 
@@ -131,11 +131,11 @@ pub fn is_accept(v: Judged) -> bool {
     }
 }
 
-pub fn print_judged(v: Judged) {
+pub fn print_judged(rt: HostRuntime, v: Judged) {
     match v {
-        Judged::None => print::word(b"none"),
-        Judged::Accept => print::word(b"accept"),
-        Judged::Reject => print::word(b"reject"),
+        Judged::None => print::word(rt, b"none"),
+        Judged::Accept => print::word(rt, b"accept"),
+        Judged::Reject => print::word(rt, b"reject"),
     }
 }
 
@@ -197,35 +197,35 @@ pub fn accepted(s: Shape, words: &Words) -> u32 {
 }
 
 // The same, `of`, and how many were tried.
-pub fn print_points(s: Shape, words: &Words) {
-    print::number(accepted(s, words));
-    print::word(b"of");
-    print::number(tried(s));
+pub fn print_points(rt: HostRuntime, s: Shape, words: &Words) {
+    print::number(rt, accepted(s, words));
+    print::word(rt, b"of");
+    print::number(rt, tried(s));
 }
 
 // The line of the transcript with t's first coefficient raised: it is accepted at the rows' points, of which two are tried over the largest prime.
-pub fn change_t(s: Shape, words: &Words) {
+pub fn change_t(rt: HostRuntime, s: Shape, words: &Words) {
     let end = TRANSCRIPT + circuit::t_start(blinding(s), s.n as usize) + 1;
-    print::heading(b"first coefficient of t changed", &[s.p, s.n, s.l]);
-    print_points(s, &buffers::raised(s.p, *words, end));
-    print::text(b"\n");
+    print::heading(rt, b"first coefficient of t changed", &[s.p, s.n, s.l]);
+    print_points(rt, s, &buffers::raised(s.p, *words, end));
+    print::text(rt, b"\n");
 }
 
-fn print_identity(id: Identity) {
+fn print_identity(rt: HostRuntime, id: Identity) {
     match id {
-        Identity::Gate => print::word(b"gate"),
-        Identity::Start => print::word(b"start"),
-        Identity::Step => print::word(b"step"),
+        Identity::Gate => print::word(rt, b"gate"),
+        Identity::Start => print::word(rt, b"start"),
+        Identity::Step => print::word(rt, b"step"),
     }
 }
 
-fn print_verdict(v: Verdict) {
+fn print_verdict(rt: HostRuntime, v: Verdict) {
     match v {
-        Verdict::None => print::word(b"none"),
-        Verdict::Pass => print::word(b"pass"),
+        Verdict::None => print::word(rt, b"none"),
+        Verdict::Pass => print::word(rt, b"pass"),
         Verdict::Fails(id, row) => {
-            print_identity(id);
-            print::number(row);
+            print_identity(rt, id);
+            print::number(rt, row);
         }
     }
 }
@@ -265,7 +265,7 @@ fn z_rows(s: Shape, words: &Words) -> Words {
 }
 
 // The row check's verdict, with z on the rows, and the line's end.
-pub fn print_rows(s: Shape, words: &Words) {
+pub fn print_rows(rt: HostRuntime, s: Shape, words: &Words) {
     let n = s.n as usize;
     let k = 3 * n;
     let z = z_rows(s, words);
@@ -281,25 +281,32 @@ pub fn print_rows(s: Shape, words: &Words) {
         part(words, CHALLENGES, 2),
     );
     let v = r.verdict;
-    print_verdict(v);
-    print::text(b"\n");
+    print_verdict(rt, v);
+    print::text(rt, b"\n");
 }
 
 // The numbers that were written over marks, or a digest where they are many; `kept` where the marks are there.
-fn print_written(xs: &[u32]) {
+fn print_written(rt: HostRuntime, xs: &[u32]) {
     if same(xs, part(&buffers::marked(), 0, xs.len()), 0) {
-        print::word(b"kept");
+        print::word(rt, b"kept");
     } else if xs.len() <= 13 {
-        print::word(b"written");
-        print::numbers(xs);
+        print::word(rt, b"written");
+        print::numbers(rt, xs);
     } else {
-        print::word(b"digest");
-        print::number(buffers::digest(xs));
+        print::word(rt, b"digest");
+        print::number(rt, buffers::digest(xs));
     }
 }
 
 // The line of `check_opening` for every polynomial at 3, with the mixing number 5.
-fn check(text: &[u8], s: Shape, words: &Words, evaluations: &[u32], quotient: &[u32]) {
+fn check(
+    rt: HostRuntime,
+    text: &[u8],
+    s: Shape,
+    words: &Words,
+    evaluations: &[u32],
+    quotient: &[u32],
+) {
     let k = work(s);
     let mut scratch = buffers::marked();
     let r = opening::check_opening(
@@ -315,16 +322,16 @@ fn check(text: &[u8], s: Shape, words: &Words, evaluations: &[u32], quotient: &[
     );
     let answer = r.answer;
     let verdict = r.verdict;
-    label(text, s);
-    print::heading(b",check", &[s.p, s.n]);
-    print::answer(answer);
-    print_judged(verdict);
-    print::left(part(&scratch, 0, k));
-    print::text(b"\n");
+    label(rt, text, s);
+    print::heading(rt, b",check", &[s.p, s.n]);
+    print::answer(rt, answer);
+    print_judged(rt, verdict);
+    print::left(rt, part(&scratch, 0, k));
+    print::text(rt, b"\n");
 }
 
 // Every polynomial opened there: the answer, what was written, and the scratch; and that checked, as it is and with the last evaluation raised.
-pub fn every_polynomial(s: Shape, words: &Words) {
+pub fn every_polynomial(rt: HostRuntime, s: Shape, words: &Words) {
     let n = s.n as usize;
     let k = work(s);
     let mut values = [0u32; 13];
@@ -344,15 +351,15 @@ pub fn every_polynomial(s: Shape, words: &Words) {
         &[3, 5],
         first(&mut scratch, k),
     );
-    label(b"every polynomial", s);
-    print::heading(b",open", &[s.p, s.n]);
-    print::answer(answer);
-    print_written(&values);
-    print_written(q);
-    print::left(part(&scratch, 0, k));
-    print::text(b"\n");
-    check(b"every polynomial", s, words, &values, q);
+    label(rt, b"every polynomial", s);
+    print::heading(rt, b",open", &[s.p, s.n]);
+    print::answer(rt, answer);
+    print_written(rt, &values);
+    print_written(rt, q);
+    print::left(rt, part(&scratch, 0, k));
+    print::text(rt, b"\n");
+    check(rt, b"every polynomial", s, words, &values, q);
     let last = buffers::mul_add(s.p, 1, 1, values[12]);
     values[12] = last;
-    check(b"last evaluation raised", s, words, &values, q);
+    check(rt, b"last evaluation raised", s, words, &values, q);
 }

@@ -33,33 +33,33 @@ fn file_room() -> [u8; FILE_ROOM]
 }
 
 // The call that a block names is made.
-fn run_block(s: &[u8]) {
+fn run_block(rt: HostRuntime, s: &[u8]) {
     let name = lines::line(s, 0);
     if lines::is(name, b"deposit") {
-        sheets::deposit(s);
+        sheets::deposit(rt, s);
     } else if lines::is(name, b"join") {
-        sheets::join(s);
+        sheets::join(rt, s);
     } else if lines::is(name, b"read") {
-        sheets::read(s);
+        sheets::read(rt, s);
     } else if lines::is(name, b"polynomial") {
-        polynomial::run(s);
+        polynomial::run(rt, s);
     } else {
-        words::run(s);
+        words::run(rt, s);
     }
 }
 
 // A line that begins with #, or a block, at the text's start; where what is behind it starts.
-fn run_first(s: &[u8]) -> usize
+fn run_first(rt: HostRuntime, s: &[u8]) -> usize
     requires { 0 < length s.now }
     ensures { (0 < result) × (result ≤ length s.now) }
 {
     if s[0] == b'#' {
         let end = lines::next(s, 0);
-        streams::print(&s[..end]);
+        streams::print(rt, &s[..end]);
         return end;
     }
     let stop = lines::stop(s);
-    run_block(&s[..stop]);
+    run_block(rt, &s[..stop]);
     if stop < s.len() {
         return lines::next(s, stop);
     }
@@ -67,27 +67,27 @@ fn run_first(s: &[u8]) -> usize
 }
 
 // Every block of a file.
-fn run_all(s: &[u8]) {
+fn run_all(rt: HostRuntime, s: &[u8]) {
     let mut at = 0;
     while at < s.len() {
-        at += run_first(&s[at..]);
+        at += run_first(rt, &s[at..]);
     }
 }
 
 // The file that argument i names; false where it cannot be read, which is told.
-fn run_file(i: usize) -> bool {
+fn run_file(rt: HostRuntime, i: usize) -> bool {
     let mut file = file_room();
-    let Got::Bytes(n) = streams::read_file(i, &mut file) else {
+    let Got::Bytes(n) = streams::read_file(rt, i, &mut file) else {
         return false;
     };
-    run_all(&file[..n]);
+    run_all(rt, &file[..n]);
     true
 }
 
-fn main() {
-    let end = os::arg_count();
+fn main(rt: HostRuntime) {
+    let end = streams::arg_count(rt);
     let mut i = 1;
-    while i < end && run_file(i) {
+    while i < end && run_file(rt, i) {
         i += 1;
     }
 }

@@ -20,26 +20,26 @@ fn place(xs: &[u32], x: u32) -> usize
 }
 
 // Where the part starts, counted through the prepared circuit and then the transcript, how many words it has, and its words.
-fn tell(prepared: &[u32], transcript: &[u32], part: &[u32]) {
+fn tell(rt: HostRuntime, prepared: &[u32], transcript: &[u32], part: &[u32]) {
     if part.len() == 0 {
-        print(b"polynomial,empty\n");
+        print(rt, b"polynomial,empty\n");
         return;
     }
     let mut start = place(prepared, part[0]);
     if start == prepared.len() {
         start += place(transcript, part[0]);
     }
-    print(b"polynomial,");
-    print::number(start as u64);
-    print(b",");
-    print::number(part.len() as u64);
-    print(b"\n");
-    print::numbers(part);
-    print(b"\n");
+    print(rt, b"polynomial,");
+    print::number(rt, start as u64);
+    print(rt, b",");
+    print::number(rt, part.len() as u64);
+    print(rt, b"\n");
+    print::numbers(rt, part);
+    print(rt, b"\n");
 }
 
 // The call of a block: n and the polynomial's number; the prepared circuit, the transcript.
-pub fn run(s: &[u8]) {
+pub fn run(rt: HostRuntime, s: &[u8]) {
     let mut numbers = [0u32; 2];
     lines::numbers(line(s, 1), &mut numbers);
     let a = laid(line(s, 2));
@@ -47,5 +47,5 @@ pub fn run(s: &[u8]) {
     let prepared = part(&a, line(s, 2));
     let transcript = part(&b, line(s, 3));
     let found = circuit::polynomial(numbers[0], numbers[1], prepared, transcript);
-    tell(prepared, transcript, found);
+    tell(rt, prepared, transcript, found);
 }

@@ -5,46 +5,46 @@ use blocks::words::MARK;
 use blocks::{buffers, bytes, print};
 
 // The call `deposit` of a block.
-pub fn deposit(s: &[u8]) {
+pub fn deposit(rt: HostRuntime, s: &[u8]) {
     let mut answer = [MARK; 4];
-    let sheet = laid(line(s, 2));
-    let mut text = laid(line(s, 3));
+    let sheet = laid(rt, line(s, 2));
+    let mut text = laid(rt, line(s, 3));
     exports::guppyspoon_deposit(
-        part(&sheet, line(s, 2)),
-        lent(&mut text, line(s, 3)),
+        part(rt, &sheet, line(s, 2)),
+        lent(rt, &mut text, line(s, 3)),
         &mut answer,
     );
-    print::answer(b"deposit", &answer);
-    bytes::look(line(s, 3), &text);
+    print::answer(rt, b"deposit", &answer);
+    bytes::look(rt, line(s, 3), &text);
 }
 
 // The call `join` of a block.
-pub fn join(s: &[u8]) {
+pub fn join(rt: HostRuntime, s: &[u8]) {
     let mut answer = [MARK; 4];
-    let one = laid(line(s, 2));
-    let two = laid(line(s, 3));
-    let mut joined = laid(line(s, 4));
+    let one = laid(rt, line(s, 2));
+    let two = laid(rt, line(s, 3));
+    let mut joined = laid(rt, line(s, 4));
     exports::guppyspoon_join(
-        part(&one, line(s, 2)),
-        part(&two, line(s, 3)),
-        lent(&mut joined, line(s, 4)),
+        part(rt, &one, line(s, 2)),
+        part(rt, &two, line(s, 3)),
+        lent(rt, &mut joined, line(s, 4)),
         &mut answer,
     );
-    print::answer(b"join", &answer);
-    bytes::look(line(s, 4), &joined);
+    print::answer(rt, b"join", &answer);
+    bytes::look(rt, line(s, 4), &joined);
 }
 
 // The call `read` of a block.
-pub fn read(s: &[u8]) {
+pub fn read(rt: HostRuntime, s: &[u8]) {
     let mut answer = [MARK; 7];
-    let sheet = laid(line(s, 2));
+    let sheet = laid(rt, line(s, 2));
     let mut b = buffers::laid(line(s, 3));
     let mut c = buffers::laid(line(s, 4));
     let mut d = buffers::laid(line(s, 5));
     let mut e = buffers::laid(line(s, 6));
     let mut f = buffers::laid(line(s, 7));
     exports::guppyspoon_read(
-        part(&sheet, line(s, 2)),
+        part(rt, &sheet, line(s, 2)),
         buffers::lent(&mut b, line(s, 3)),
         buffers::lent(&mut c, line(s, 4)),
         buffers::lent(&mut d, line(s, 5)),
@@ -52,10 +52,10 @@ pub fn read(s: &[u8]) {
         buffers::lent(&mut f, line(s, 7)),
         &mut answer,
     );
-    print::answer(b"read", &answer);
-    buffers::look(line(s, 3), true, &b);
-    buffers::look(line(s, 4), true, &c);
-    buffers::look(line(s, 5), true, &d);
-    buffers::look(line(s, 6), true, &e);
-    buffers::look(line(s, 7), true, &f);
+    print::answer(rt, b"read", &answer);
+    buffers::look(rt, line(s, 3), true, &b);
+    buffers::look(rt, line(s, 4), true, &c);
+    buffers::look(rt, line(s, 5), true, &d);
+    buffers::look(rt, line(s, 6), true, &e);
+    buffers::look(rt, line(s, 7), true, &f);
 }

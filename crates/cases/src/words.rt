@@ -5,19 +5,36 @@ use blocks::words::MARK;
 use blocks::{lines, print};
 
 // The rooms of the buffers that are lent to be read are as they were.
-fn hold_all(s: &[u8], a: &Room, b: &Room, c: &Room, d: &Room, e: &Room, f: &Room, g: &Room) {
-    hold(line(s, 2), a);
-    hold(line(s, 3), b);
-    hold(line(s, 4), c);
-    hold(line(s, 5), d);
-    hold(line(s, 6), e);
-    hold(line(s, 7), f);
-    hold(line(s, 8), g);
+fn hold_all(
+    rt: HostRuntime,
+    s: &[u8],
+    a: &Room,
+    b: &Room,
+    c: &Room,
+    d: &Room,
+    e: &Room,
+    f: &Room,
+    g: &Room,
+) {
+    hold(rt, line(s, 2), a);
+    hold(rt, line(s, 3), b);
+    hold(rt, line(s, 4), c);
+    hold(rt, line(s, 5), d);
+    hold(rt, line(s, 6), e);
+    hold(rt, line(s, 7), f);
+    hold(rt, line(s, 8), g);
 }
 
 // The call that a block names, with the buffers that it may write: the others are filled, lent to be read, and must be as they were. A call has at most
 // eight buffers, and the last of eight is written.
-fn make(s: &[u8], x: &mut [u32], y: &mut [u32], z: &mut [u32], answer: &mut [u32]) {
+fn make(
+    rt: HostRuntime,
+    s: &[u8],
+    x: &mut [u32],
+    y: &mut [u32],
+    z: &mut [u32],
+    answer: &mut [u32],
+) {
     let mut numbers = [0u32; 3];
     lines::numbers(line(s, 1), &mut numbers);
     let a = laid(line(s, 2));
@@ -42,12 +59,12 @@ fn make(s: &[u8], x: &mut [u32], y: &mut [u32], z: &mut [u32], answer: &mut [u32
         z,
         answer,
     );
-    hold_all(s, &a, &b, &c, &d, &e, &f, &g);
+    hold_all(rt, s, &a, &b, &c, &d, &e, &f, &g);
 }
 
 // The call of a block. It may write at most three buffers, which are the block's lines `?k`, and at most four words of answer: there is room for one more, so
 // that one too many shows.
-pub fn run(s: &[u8]) {
+pub fn run(rt: HostRuntime, s: &[u8]) {
     let mut answer = [MARK; 5];
     let i = line(s, lines::marked(s, 0));
     let j = line(s, lines::marked(s, 1));
@@ -56,14 +73,15 @@ pub fn run(s: &[u8]) {
     let mut y = laid(j);
     let mut z = laid(k);
     make(
+        rt,
         s,
         lent(&mut x, i),
         lent(&mut y, j),
         lent(&mut z, k),
         &mut answer,
     );
-    print::answer(line(s, 0), &answer);
-    look(i, false, &x);
-    look(j, false, &y);
-    look(k, false, &z);
+    print::answer(rt, line(s, 0), &answer);
+    look(rt, i, false, &x);
+    look(rt, j, false, &y);
+    look(rt, k, false, &z);
 }

@@ -8,25 +8,25 @@ mod counts;
 mod made;
 
 // The lines of every size from 2 to the greatest. Nothing is proved over 97.
-fn every_size(p: u32, greatest: u32)
+fn every_size(rt: HostRuntime, p: u32, greatest: u32)
     requires { greatest ≤ 1024 }
 {
     let mut n: u32 = 2;
     while n <= greatest {
-        random_cases::there_and_back(p, n);
+        random_cases::there_and_back(rt, p, n);
         if p != 97 {
-            made::lines(b"half of the rows public", p, n, n / 2, 2 * n);
+            made::lines(rt, b"half of the rows public", p, n, n / 2, 2 * n);
         }
         n = 2 * n;
     }
 }
 
-fn main() {
-    every_size(17, 4);
-    every_size(97, 32);
-    every_size(2013265921, 1024);
-    made::others();
-    random_cases::run();
-    counts::worked_sheet();
-    counts::lost_gammas();
+fn main(rt: HostRuntime) {
+    every_size(rt, 17, 4);
+    every_size(rt, 97, 32);
+    every_size(rt, 2013265921, 1024);
+    made::others(rt);
+    random_cases::run(rt);
+    counts::worked_sheet(rt);
+    counts::lost_gammas(rt);
 }

@@ -3,13 +3,13 @@
 
 use streams::Got;
 
-fn main() {
+fn main(rt: HostRuntime) {
     let mut sheet = sheet::sheet_room();
-    let Got::Bytes(n) = streams::read_input(&mut sheet) else {
+    let Got::Bytes(n) = streams::read_input(rt, &mut sheet) else {
         return;
     };
     let mut text = archive::text_room();
     let made = archive::deposit(&sheet[..n], &mut text);
     let end = made.length;
-    streams::print(&text[..end]);
+    streams::print(rt, &text[..end]);
 }

@@ -84,55 +84,55 @@ fn is_due(text: &[u8], at: usize, v: Judged) -> bool {
 }
 
 // What `deposit` prints for the sheet: a refusal of its prime, the text that was filed, or another one.
-fn print_deposited(sheet: &[u8], filed: &[u8]) {
+fn print_deposited(rt: HostRuntime, sheet: &[u8], filed: &[u8]) {
     let mut text = archive::text_room();
     let made = archive::deposit(sheet, &mut text);
     let is_filed = made.length == filed.len() && says(&text, 0, filed);
-    print::word(b"deposit");
+    print::word(rt, b"deposit");
     if says(&text, 0, b"refused,16,0\n") {
-        print::word(b"refused,16,0");
+        print::word(rt, b"refused,16,0");
     } else {
-        print::either(is_filed, b"as filed", b"another text");
+        print::either(rt, is_filed, b"as filed", b"another text");
     }
 }
 
 // The line on the sheet as a new one: what the prover answers, what `deposit` prints, and what `join` answers where the sheet is joined to itself.
-fn print_new(s: Shape, words: &Words, sheet: &[u8], filed: &[u8]) {
+fn print_new(rt: HostRuntime, s: Shape, words: &Words, sheet: &[u8], filed: &[u8]) {
     let mut transcript = buffers::room();
     let mut scratch = buffers::room();
     let mut joined = joining::joined_room();
     let proved = circuits::prove(s, words, &mut transcript, &mut scratch);
-    print::text(b"as a new sheet");
-    print::either(s.blinded, b"prove_blinded", b"prove");
-    print::answer(proved);
-    print_deposited(sheet, filed);
+    print::text(rt, b"as a new sheet");
+    print::either(rt, s.blinded, b"prove_blinded", b"prove");
+    print::answer(rt, proved);
+    print_deposited(rt, sheet, filed);
     let made = joining::join(sheet, sheet, &mut joined);
     let answer = made.answer;
-    print::word(b"join");
-    print::answer(answer);
-    print::text(b"\n");
+    print::word(rt, b"join");
+    print::answer(rt, answer);
+    print::text(rt, b"\n");
 }
 
 // The lines of a deposit, from p on. The filed verdict stands at a place of its text.
-fn print_lines(s: Shape, words: &Words, sheet: &[u8], text: &[u8], at: usize) {
+fn print_lines(rt: HostRuntime, s: Shape, words: &Words, sheet: &[u8], text: &[u8], at: usize) {
     let end = circuits::WITNESS + 3 * (s.n as usize);
     let v = circuits::point(s, words);
-    print::numbers(&[s.p, s.n, s.l]);
-    circuits::print_judged(v);
-    print::either(is_due(text, at, v), b"as filed", b"NOT AS FILED");
-    circuits::print_points(s, words);
-    circuits::print_rows(s, words);
-    circuits::change_t(s, words);
-    print::heading(b"last content changed", &[s.p, s.n, s.l]);
-    circuits::print_rows(s, &buffers::raised(s.p, *words, end));
+    print::numbers(rt, &[s.p, s.n, s.l]);
+    circuits::print_judged(rt, v);
+    print::either(rt, is_due(text, at, v), b"as filed", b"NOT AS FILED");
+    circuits::print_points(rt, s, words);
+    circuits::print_rows(rt, s, words);
+    circuits::change_t(rt, s, words);
+    print::heading(rt, b"last content changed", &[s.p, s.n, s.l]);
+    circuits::print_rows(rt, s, &buffers::raised(s.p, *words, end));
     if 2 <= s.n {
-        circuits::every_polynomial(s, words);
+        circuits::every_polynomial(rt, s, words);
     }
-    print_new(s, words, sheet, text);
+    print_new(rt, s, words, sheet, text);
 }
 
 // The lines of a deposit, behind the sheet's name.
-fn judge(sheet: &[u8], text: &[u8]) {
+fn judge(rt: HostRuntime, sheet: &[u8], text: &[u8]) {
     let mut words = buffers::room();
     let mut selectors = [0u32; 1280];
     let mut labels = [0u32; 768];
@@ -160,50 +160,51 @@ fn judge(sheet: &[u8], text: &[u8]) {
     buffers::lay(&publics, &mut words, circuits::PUBLICS);
     buffers::lay(&drawn, &mut words, circuits::CHALLENGES);
     let at = transcript(s, text, &mut words);
-    print::answer(answer);
-    print_lines(s, &circuits::prepared(s, &words), sheet, text, at);
+    print::answer(rt, answer);
+    print_lines(rt, s, &circuits::prepared(s, &words), sheet, text, at);
 }
 
 // The same behind the sheet's name, which is argument i. False where that cannot be printed, or the text is longer than that of any deposit: it is told.
-fn print_judged(i: usize, sheet: &[u8], text: &[u8]) -> bool {
+fn print_judged(rt: HostRuntime, i: usize, sheet: &[u8], text: &[u8]) -> bool {
     if archive::TEXT_LENGTH < text.len() {
-        streams::tell(b"a text is longer than that of any deposit\n");
+        streams::tell(rt, b"a text is longer than that of any deposit\n");
         return false;
     }
     let mut name = io::buffer();
-    let n = os::arg(i, &mut name);
-    if !streams::print(&name[..n]) {
+    let n = streams::arg(rt, i, &mut name);
+    if !streams::print(rt, &name[..n]) {
         return false;
     }
-    judge(sheet, text);
+    judge(rt, sheet, text);
     true
 }
 
 // The deposit whose sheet argument i names, and whose text the next one does. False where one of them cannot be read, or not be judged: what failed is
 // told.
-fn judge_filed(i: usize, next: usize) -> bool {
+fn judge_filed(rt: HostRuntime, i: usize, next: usize) -> bool {
     let mut sheet = sheet::sheet_room();
-    let Got::Bytes(n) = streams::read_file(i, &mut sheet) else {
+    let Got::Bytes(n) = streams::read_file(rt, i, &mut sheet) else {
         return false;
     };
     let mut text = sheet::sheet_room();
-    let Got::Bytes(m) = streams::read_file(next, &mut text) else {
+    let Got::Bytes(m) = streams::read_file(rt, next, &mut text) else {
         return false;
     };
-    print_judged(i, &sheet[..n], &text[..m])
+    print_judged(rt, i, &sheet[..n], &text[..m])
 }
 
-fn main() {
-    let end = os::arg_count();
+fn main(rt: HostRuntime) {
+    let end = streams::arg_count(rt);
     if end < 3 || end % 2 == 0 {
         streams::tell(
+            rt,
             b"filed takes the names of two files for each deposit, its sheet and its text\n",
         );
         return;
     }
     // those past 65,536 are not looked at
     let mut i = 1;
-    while i < 65536 && i < end && judge_filed(i, i + 1) {
+    while i < 65536 && i < end && judge_filed(rt, i, i + 1) {
         i += 2;
     }
 }

@@ -4,7 +4,7 @@
 use streams::Got;
 
 // Prints the joined sheet, or the line of a refusal.
-fn print(one: &[u8], two: &[u8]) {
+fn print(rt: HostRuntime, one: &[u8], two: &[u8]) {
     let mut joined = joining::joined_room();
     let made = joining::join(one, two, &mut joined);
     let answer = made.answer;
@@ -12,26 +12,29 @@ fn print(one: &[u8], two: &[u8]) {
     let detail = answer.detail;
     if number == 0 {
         let end = made.length;
-        streams::print(&joined[..end]);
+        streams::print(rt, &joined[..end]);
     } else {
         let mut line = [0u8; 30];
         let end = text::put_refused(number, detail, &mut line);
-        streams::print(&line[..end]);
+        streams::print(rt, &line[..end]);
     }
 }
 
-fn main() {
-    if os::arg_count() != 3 {
-        streams::tell(b"join takes the names of two files, each with a sheet\n");
+fn main(rt: HostRuntime) {
+    if streams::arg_count(rt) != 3 {
+        streams::tell(
+            rt,
+            b"join takes the names of two files, each with a sheet\n",
+        );
         return;
     }
     let mut one = sheet::sheet_room();
-    let Got::Bytes(n) = streams::read_file(1, &mut one) else {
+    let Got::Bytes(n) = streams::read_file(rt, 1, &mut one) else {
         return;
     };
     let mut two = sheet::sheet_room();
-    let Got::Bytes(m) = streams::read_file(2, &mut two) else {
+    let Got::Bytes(m) = streams::read_file(rt, 2, &mut two) else {
         return;
     };
-    print(&one[..n], &two[..m]);
+    print(rt, &one[..n], &two[..m]);
 }
