@@ -1,9 +1,4 @@
-// The public calls, but for `polynomial`, for callers in C and Rust, each under its name with the prefix guppyspoon_.
-//
-// Numbers are passed as themselves. A slice is passed as two arguments, a pointer to its first number and its length in numbers (bytes
-// for a sheet and a text, words else):
-//
-//   void guppyspoon_inverse(uint32_t p, uint32_t x, uint32_t *answer, size_t answer_length);
+// The public calls, but for `polynomial`, each under its name with the prefix guppyspoon_, as callers in C and Rust have them from `exports_c`.
 //
 // No slice may overlap one that is written. Nothing is returned. The answer's words are written to `answer`, the last slice of each call: number
 // and detail, and then
@@ -41,8 +36,7 @@ ghost use Rattle.exports.specs.Answers.{answer_words, inverted_words, row_words,
 mod words;
 
 // `field::inverse`: the inverse of x modulo p; none for 0.
-#[unsafe(no_mangle)]
-pub extern "C" fn guppyspoon_inverse(p: u32, x: u32, answer: &mut [u32])
+pub fn guppyspoon_inverse(p: u32, x: u32, answer: &mut [u32])
     ensures { Handed inverted_words (λ r. Inverts p x r) answer.old answer.new }
 {
     let r = field::inverse(p, x);
@@ -50,8 +44,7 @@ pub extern "C" fn guppyspoon_inverse(p: u32, x: u32, answer: &mut [u32])
 }
 
 // `transform::evaluate`: the values of a polynomial of n coefficients at the n domain points.
-#[unsafe(no_mangle)]
-pub extern "C" fn guppyspoon_evaluate(
+pub fn guppyspoon_evaluate(
     p: u32,
     n: u32,
     coefficients: &[u32],
@@ -66,8 +59,7 @@ pub extern "C" fn guppyspoon_evaluate(
 }
 
 // `transform::interpolate`: the one polynomial of n coefficients with the given values at the n domain points.
-#[unsafe(no_mangle)]
-pub extern "C" fn guppyspoon_interpolate(
+pub fn guppyspoon_interpolate(
     p: u32,
     n: u32,
     values: &[u32],
@@ -82,8 +74,7 @@ pub extern "C" fn guppyspoon_interpolate(
 }
 
 // `circuit::permutation`: the position that the copy permutation leads to from each of the 3n positions.
-#[unsafe(no_mangle)]
-pub extern "C" fn guppyspoon_permutation(
+pub fn guppyspoon_permutation(
     p: u32,
     n: u32,
     labels: &[u32],
@@ -97,8 +88,7 @@ pub extern "C" fn guppyspoon_permutation(
 }
 
 // `preparing::prepare`: the prepared circuit.
-#[unsafe(no_mangle)]
-pub extern "C" fn guppyspoon_prepare(
+pub fn guppyspoon_prepare(
     p: u32,
     n: u32,
     l: u32,
@@ -115,8 +105,7 @@ pub extern "C" fn guppyspoon_prepare(
 }
 
 // `rowcheck::check_rows`: whether the three identities hold at every row, and where not, at which first.
-#[unsafe(no_mangle)]
-pub extern "C" fn guppyspoon_check_rows(
+pub fn guppyspoon_check_rows(
     p: u32,
     n: u32,
     l: u32,
@@ -135,8 +124,7 @@ pub extern "C" fn guppyspoon_check_rows(
 }
 
 // `pointcheck::check_point`: whether a lent transcript answers for a prepared circuit at one point.
-#[unsafe(no_mangle)]
-pub extern "C" fn guppyspoon_check_point(
+pub fn guppyspoon_check_point(
     p: u32,
     n: u32,
     l: u32,
@@ -154,8 +142,7 @@ pub extern "C" fn guppyspoon_check_point(
 }
 
 // `opening::open`: the evaluations at a point of the polynomials that a list names, and their opening polynomial.
-#[unsafe(no_mangle)]
-pub extern "C" fn guppyspoon_open<'a>(
+pub fn guppyspoon_open<'a>(
     p: u32,
     n: u32,
     prepared: &'a [u32],
@@ -184,8 +171,7 @@ pub extern "C" fn guppyspoon_open<'a>(
 }
 
 // `opening::check_opening`: whether lent evaluations and a lent opening polynomial are right, as polynomials.
-#[unsafe(no_mangle)]
-pub extern "C" fn guppyspoon_check_opening<'a>(
+pub fn guppyspoon_check_opening<'a>(
     p: u32,
     n: u32,
     prepared: &'a [u32],
@@ -214,8 +200,7 @@ pub extern "C" fn guppyspoon_check_opening<'a>(
 }
 
 // `prover::prove`: the transcript a, b, c, z, t of a witness that satisfies its circuit.
-#[unsafe(no_mangle)]
-pub extern "C" fn guppyspoon_prove(
+pub fn guppyspoon_prove(
     p: u32,
     n: u32,
     l: u32,
@@ -237,8 +222,7 @@ pub extern "C" fn guppyspoon_prove(
 }
 
 // `prover::prove_blinded`: the same, blinded by nine numbers.
-#[unsafe(no_mangle)]
-pub extern "C" fn guppyspoon_prove_blinded(
+pub fn guppyspoon_prove_blinded(
     p: u32,
     n: u32,
     l: u32,
@@ -261,8 +245,7 @@ pub extern "C" fn guppyspoon_prove_blinded(
 }
 
 // `losses::lost_gammas`: how many gammas a beta loses to reason 11.
-#[unsafe(no_mangle)]
-pub extern "C" fn guppyspoon_lost_gammas(
+pub fn guppyspoon_lost_gammas(
     p: u32,
     n: u32,
     witness: &[u32],
@@ -277,8 +260,7 @@ pub extern "C" fn guppyspoon_lost_gammas(
 }
 
 // `sheet::read`: the numbers of a sheet, laid out as they are lent for 256 rows.
-#[unsafe(no_mangle)]
-pub extern "C" fn guppyspoon_read(
+pub fn guppyspoon_read(
     sheet: &[u8],
     selectors: &mut [u32],
     labels: &mut [u32],
@@ -294,8 +276,7 @@ pub extern "C" fn guppyspoon_read(
 }
 
 // `transfer::to_rows`: contents that stand column after column, as they were lent before request 8 of document 02, row by row.
-#[unsafe(no_mangle)]
-pub extern "C" fn guppyspoon_to_rows(n: u32, columns: &[u32], rows: &mut [u32], answer: &mut [u32])
+pub fn guppyspoon_to_rows(n: u32, columns: &[u32], rows: &mut [u32], answer: &mut [u32])
     ensures { Handed answer_words (λ r. Transfers n (to_rows n) columns.now rows.old r rows.new) answer.old answer.new }
 {
     let r = transfer::to_rows(n, columns, rows);
@@ -303,13 +284,7 @@ pub extern "C" fn guppyspoon_to_rows(n: u32, columns: &[u32], rows: &mut [u32], 
 }
 
 // `transfer::to_columns`: contents that stand row by row, column after column.
-#[unsafe(no_mangle)]
-pub extern "C" fn guppyspoon_to_columns(
-    n: u32,
-    rows: &[u32],
-    columns: &mut [u32],
-    answer: &mut [u32],
-)
+pub fn guppyspoon_to_columns(n: u32, rows: &[u32], columns: &mut [u32], answer: &mut [u32])
     ensures { Handed answer_words (λ r. Transfers n (to_columns n) rows.now columns.old r columns.new) answer.old answer.new }
 {
     let r = transfer::to_columns(n, rows, columns);
@@ -317,8 +292,7 @@ pub extern "C" fn guppyspoon_to_columns(
 }
 
 // `archive::deposit`: the text of a sheet's deposit.
-#[unsafe(no_mangle)]
-pub extern "C" fn guppyspoon_deposit(sheet: &[u8], text: &mut [u8], answer: &mut [u32])
+pub fn guppyspoon_deposit(sheet: &[u8], text: &mut [u8], answer: &mut [u32])
     ensures { Handed deposited_words (λ r. Deposits sheet.now text.old r text.new) answer.old answer.new }
 {
     let r = archive::deposit(sheet, text);
@@ -327,8 +301,7 @@ pub extern "C" fn guppyspoon_deposit(sheet: &[u8], text: &mut [u8], answer: &mut
 }
 
 // `joining::join`: the sheet of two sheets' circuits and what they are filled with.
-#[unsafe(no_mangle)]
-pub extern "C" fn guppyspoon_join(one: &[u8], two: &[u8], joined: &mut [u8], answer: &mut [u32])
+pub fn guppyspoon_join(one: &[u8], two: &[u8], joined: &mut [u8], answer: &mut [u32])
     ensures { Handed joined_words (λ r. Joins one.now two.now joined.old r joined.new) answer.old answer.new }
 {
     let r = joining::join(one, two, joined);
