@@ -19,7 +19,8 @@ use Rattle.field.specs.ReasonLaws.{taken, both_taken, elements_none}
 use Rattle.circuit.specs.Circuit.{Constraints, Circuit, lent_witness, Satisfies}
 use Rattle.circuit.specs.Buffers.{witness_length}
 use Rattle.protocol.specs.Protocol.{lost_gammas}
-use Rattle.protocol.specs.Demand3.{ZeroPair, demand_3}
+use Rattle.protocol.specs.Demand3.{ZeroPair}
+use Rattle.protocol.proofs.Demand3.{demand_3}
 use Rattle.witnesses.specs.Accepted.{Honest}
 use Rattle.prover.specs.Refusals.{RefusedBy11, refusals_counted}
 use Rattle.losses.specs.declared.Counted.{Counted}

@@ -3,3 +3,5 @@ pub mod Deciding
 pub mod Terms
 pub mod Dividing
 pub mod Judging
+pub mod Openings
+pub mod Answers

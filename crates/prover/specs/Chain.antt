@@ -18,7 +18,8 @@ use Rattle.algebra.specs.Polynomial.{coef, Elements}
 use Rattle.algebra.specs.Tables.{tab_ext, tab-get_or, all_get_d}
 use Rattle.field.specs.declared.Answer.{Answer}
 use Rattle.field.specs.Fields.{Admissible}
-use Rattle.field.specs.Domain.{Domain, domain}
+use Rattle.field.specs.Domain.{Domain}
+use Rattle.field.proofs.Domain.{domain}
 use Rattle.field.specs.Reasons.{is_accepted}
 use Rattle.transform.specs.Transform.{value_at, evaluation, interpolation, scratch_length}
 use Rattle.circuit.specs.Circuit.{Constraints, position, lent_constraints, lent_public, lent_witness}

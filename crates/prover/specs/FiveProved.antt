@@ -20,7 +20,8 @@ use Rattle.field.specs.Reasons.{answer_of, is_accepted}
 use Rattle.circuit.specs.Circuit.{lent_constraints, lent_public, lent_witness}
 use Rattle.circuit.specs.Buffers.{blinder_count, work_length, wire_part, z_part}
 use Rattle.protocol.specs.Protocol.{prove_reasons}
-use Rattle.protocol.specs.FiveValues.{FiveAt, LaysFive, FiveValues, EquallyMany, five_of_lem, five-laid, equally_many}
+use Rattle.protocol.specs.FiveValues.{FiveAt, LaysFive, FiveValues, EquallyMany}
+use Rattle.protocol.proofs.FiveValues.{five_of_lem, five-laid, equally_many}
 use Rattle.witnesses.specs.Accepted.{Accepted, prove_taken}
 use Rattle.prover.specs.Promises.{proved_from, Proves}
 

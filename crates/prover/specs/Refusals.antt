@@ -20,7 +20,8 @@ use Rattle.field.specs.Reasons.{answer_of, is_accepted}
 use Rattle.circuit.specs.Circuit.{Constraints, lent_constraints, lent_witness}
 use Rattle.protocol.specs.Protocol.{zero_factor, prove_reasons, lost_gammas, lost_pairs}
 use Rattle.protocol.specs.Conditions.{zero_factor-le}
-use Rattle.protocol.specs.Demand3.{ZeroPair, Demand3, demand_3}
+use Rattle.protocol.specs.Demand3.{ZeroPair, Demand3}
+use Rattle.protocol.proofs.Demand3.{demand_3}
 use Rattle.witnesses.specs.Accepted.{Honest, prove_taken, refused_by_11}
 use Rattle.prover.specs.Promises.{Proves}
 

@@ -3,7 +3,4 @@ pub mod Transfer
 pub mod Columns
 pub mod Worked
 pub mod ThereAndBack
-pub mod AsBefore
-pub mod Reasons
-pub mod Texts
 pub mod Theorem

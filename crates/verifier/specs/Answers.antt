@@ -32,8 +32,9 @@ use Rattle.circuit.specs.Parts.{blinded_of}
 use Rattle.circuit.specs.Reasons.{rows_reasons}
 use Rattle.circuit.specs.RightlyLent.{RightCircuit, rows_taken, point_taken}
 use Rattle.protocol.specs.Protocol.{RowVerdict, pass, fails, row_verdict, z_rows, prepared, transcript, proved, zero_factor}
-use Rattle.protocol.specs.SameValues.{verdict_ext}
-use Rattle.protocol.specs.Demand3.{witness_of, PassingPair, HoldingAlpha, AcceptedZeta, Demand3, demand_3}
+use Rattle.protocol.proofs.SameValues.{verdict_ext}
+use Rattle.protocol.specs.Demand3.{witness_of, PassingPair, HoldingAlpha, AcceptedZeta, Demand3}
+use Rattle.protocol.proofs.Demand3.{demand_3}
 use Rattle.rowcheck.specs.declared.RowAnswer.{RowAnswer}
 use Rattle.rowcheck.specs.declared.Verdict.TheVariants.{None, Pass}
 use Rattle.rowcheck.specs.Promises.{verdict_of, lent_z, ChecksRows}

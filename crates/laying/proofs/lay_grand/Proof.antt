@@ -5,7 +5,7 @@ use mathlib.Core.Option.{Option, some, map}
 use Prim.Native.Nat.{ℕ}
 use borrow.Author.Rules.{rules}
 use Rattle.algebra.specs.Polynomial.{coef, Elements}
-use Rattle.field.specs.Domain.{domain}
+use Rattle.field.proofs.Domain.{domain}
 use Rattle.transform.specs.Transform.{interpolation}
 use Rattle.transform.specs.Interpolation.{interpolation_elements}
 use Rattle.circuit.specs.Circuit.{lent_constraints, lent_witness}

@@ -7,7 +7,7 @@ use lib.Seq.{length-take-le}
 use borrow.Author.Rules.{rules}
 use Rattle.algebra.specs.Ends.{front_array}
 use Rattle.algebra.specs.Lists.{All}
-use Rattle.field.specs.Domain.{domain}
+use Rattle.field.proofs.Domain.{domain}
 use Rattle.transform.specs.Interpolation.{interpolation_elements}
 use Rattle.protocol.specs.Protocol.{blinded}
 use Rattle.laying.proofs.lay_wire.Goals as goal

@@ -9,7 +9,7 @@ use lib.Seq.{length-take-le}
 use borrow.Author.Rules.{rules}
 use Rattle.algebra.specs.Ends.{front_array}
 use Rattle.algebra.specs.Lists.{All}
-use Rattle.field.specs.Domain.{domain}
+use Rattle.field.proofs.Domain.{domain}
 use Rattle.circuit.specs.Circuit.{lent_constraints, lent_witness}
 use Rattle.protocol.specs.Protocol.{blinded}
 use Rattle.laying.proofs.ZLaws.{z_blinded_lem}
