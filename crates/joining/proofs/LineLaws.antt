@@ -2,13 +2,13 @@
 --
 -- line_part        a part of a table is a line of it, nothing being raised
 -- line_plain       a line that ends before the field of the labels is the same, whatever they are raised by
--- lines_none, lines-turn   lines put one after the other: none, and one more
--- source_first, source-second   the enum says from which sheet a row comes
+-- lines_none, lines_turn   lines put one after the other: none, and one more
+-- source_first, source_second   the enum says from which sheet a row comes
 -- first_below, second_below     and its row is below n
--- row_first, row-second         so the line of the row is one of that sheet
+-- row_first, row_second         so the line of the row is one of that sheet
 -- before_labels    a line that ends before the field of the labels has nothing to raise
--- gate-lines, wire-lines        of tables that can be joined, the gate lines and those of the wire values can be put
--- row-long, public-long         how long a line of a row is, and that of a public input
+-- gate_lines, wire_lines        of tables that can be joined, the gate lines and those of the wire values can be put
+-- row_long, public_long         how long a line of a row is, and that of a public input
 --
 -- Assumes nothing.
 use mathlib.Core.Path.{◌≡◌, refl, sym, ap, subst, ◌∙◌}

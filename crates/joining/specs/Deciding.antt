@@ -5,12 +5,12 @@
 -- filled_of           a sheet that is taken is filled
 -- Known               p, n, l and m of the pair r are those of the sheets, and the tables hold their lines
 -- Decides             the answer, and where no reason applies, what is known
--- first-refused, second-refused, pair-decided   the answer by the first sheet's reasons, by the second's, by those of the pair
--- first-retired, second-retired   the answer is 16 where the first sheet is over 97 and its first line is in form, and where no reason of the first applies and the second is
+-- first_refused, second_refused, pair_decided   the answer by the first sheet's reasons, by the second's, by those of the pair
+-- first_retired, second_retired   the answer is 16 where the first sheet is over 97 and its first line is in form, and where no reason of the first applies and the second is
 -- joinable_of         where no reason of `join` applies, the sheets can be joined
 -- room_is             and the written buffer has the length due
 -- rows_few            and the first has no more rows than a sheet may have
--- refused-join, made-join   the promise of `join`, where it is turned down and where not
+-- refused_join, made_join   the promise of `join`, where it is turned down and where not
 --
 -- Assumes nothing.
 use Rattle.std.specs.Prelude.{◌≡◌, refl, ◌≢◌, true, false, not, List, [], ◌∷◌, ◌++◌, ℕ, ◌*◌, ◌-◌, ◌≤◌, ◌<◌, eqb, ltb, length, replicate}

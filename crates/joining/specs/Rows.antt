@@ -1,13 +1,13 @@
 -- The rows and positions of a joined sheet, and those of the two sheets that they come from: n rows each, with l and m public inputs.
 --
--- source_one, source-two, source-three, source-four   the four kinds of rows, in their order, and the rows that stand there
+-- source_one, source_two, source_three, source_four   the four kinds of rows, in their order, and the rows that stand there
 -- by_kind            what holds of each kind holds of all 2n rows
 -- Below n s          a row of either sheet, below n
 -- source_below       each row of the joined sheet comes from a row below n
 -- Stands m P         there is a row or position of the joined sheet with P, below m
--- one-stands, two-stands   each row of the first stands at some row of the joined sheet, and so does each of the second
+-- one_stands, two_stands   each row of the first stands at some row of the joined sheet, and so does each of the second
 -- joined_position    the number at a column and a row of the joined sheet
--- at_one, at-two     each position of the first stands at some position of the joined sheet, and so does each of the second
+-- at_one, at_two     each position of the first stands at some position of the joined sheet, and so does each of the second
 -- joined_word        a word of a buffer of the joined sheet that is lent column after column
 --
 -- Assumes nothing.

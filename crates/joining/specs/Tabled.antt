@@ -1,12 +1,12 @@
 -- The tables of two sheets hold the lines of the joined sheet.
 --
 -- OF ONE SHEET s, WITH A TABLE t THAT HOLDS ITS LINES
--- gate-line, contents-line, public-line, challenges-line   the lines of the table are the numbers of the sheet, its labels raised
+-- gate_line, contents_line, public_line, challenges_line   the lines of the table are the numbers of the sheet, its labels raised
 -- label_few      its labels are below 3n
 -- OF TWO SHEETS THAT CAN BE JOINED
 -- tables         the tables are what the functions ask
 -- table_text_lem     the text that is put from the tables is the joined sheet
--- found-tables, found-text   both, by the numbers p, n, l and m of a pair that was decided
+-- found_tables, found_text   both, by the numbers p, n, l and m of a pair that was decided
 --
 -- Assumes nothing.
 use Rattle.std.specs.Prelude.{◌≡◌, ◌⊎◌, List, [], ◌∷◌, ◌++◌, ℕ, suc, ◌+◌, ◌*◌, ◌-◌, ◌≤◌, ◌<◌, length, get_or}

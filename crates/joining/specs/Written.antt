@@ -1,7 +1,7 @@
 -- The joined sheet as a text: it fits, and reading it gives the joined numbers back.
 --
 -- joined_fits      the joined sheet has at most 65,536 bytes
--- joined-accepted, joined-new   reading it is accepted, and so is taking it as a new sheet
+-- joined_accepted, joined_new   reading it is accepted, and so is taking it as a new sheet
 -- joined_back      and gives the joined numbers
 -- joined_plain     it has no line of blinders
 --

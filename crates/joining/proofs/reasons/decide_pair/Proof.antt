@@ -31,57 +31,57 @@ module _ (p n q k : ℕ) (e : p ≡ q) (f : n ≡ k) where
 refused-requires : tie.Need-refused-requires
 refused-requires c κs = search rules
 
-returns : tie.Need-returns
+returns : tie.Need-returns-then-p-q
 returns c =
     let a = c.before.before.args in
-    c.refused.ensures ∙ other-p a.p a.n a.q a.k c.before.if1.true
+    c.refused.ensures ∙ other-p a.p a.n a.q a.k c.before.if-p-q.true
 
-refused-requires-2 : tie.Need-refused-requires-2
+refused-requires-2 : tie.Need-refused-requires-then-n-k
 refused-requires-2 c κs = search rules
 
-returns-2 : tie.Need-returns-2
+returns-2 : tie.Need-returns-then-n-k
 returns-2 c =
     let a = c.before.before.before.args in
-    c.refused2.ensures ∙ other-n a.p a.n a.q a.k c.before.before.if1.false c.before.if2.true
+    c.refused-then-n-k.ensures ∙ other-n a.p a.n a.q a.k c.before.before.if-p-q.false c.before.if-n-k.true
 
-mul-is-rows : tie.Need-overflow-mul-is-rows
+mul-is-rows : tie.Need-overflow_mul-n
 mul-is-rows c = search rules
 
-is-rows-requires : tie.Need-is-rows-requires
+is-rows-requires : tie.Need-is_rows-requires
 is-rows-requires c κs = search rules
 
-refused-requires-3 : tie.Need-refused-requires-3
+refused-requires-3 : tie.Need-refused-requires-then-not-is_rows
 refused-requires-3 c κs = search rules
 
-returns-3 : tie.Need-returns-3
+returns-3 : tie.Need-returns-then-not-is_rows
 returns-3 c =
     let d = c.before.before in
     let a = d.before.before.before.args in
-    c.refused3.ensures ∙ no_rows a.p a.n a.q a.k d.before.before.if1.false d.before.if2.false (sym d.is-rows.ensures ∙ not-true _ c.before.if3.true)
+    c.refused-then-not-is_rows.ensures ∙ no_rows a.p a.n a.q a.k d.before.before.if-p-q.false d.before.if-n-k.false (sym d.is_rows.ensures ∙ not-true _ c.before.if-not-is_rows.true-raw)
 
-mul-if4 : tie.Need-overflow-mul-if4
+mul-if4 : tie.Need-overflow_mul-n-2
 mul-if4 c = search rules
 
-refused-requires-4 : tie.Need-refused-requires-4
+refused-requires-4 : tie.Need-refused-requires-then-n-gt-ROWS
 refused-requires-4 c κs = search rules
 
-returns-4 : tie.Need-returns-4
+returns-4 : tie.Need-returns-then-n-gt-ROWS
 returns-4 c =
     let d = c.before.before.before in
     let a = d.before.before.before.args in
-    c.refused4.ensures ∙ many_rows a.p a.n a.q a.k d.before.before.if1.false d.before.if2.false (sym d.is-rows.ensures ∙ not-false _ c.before.before.if3.false) c.before.if4.true
+    c.refused-then-n-gt-ROWS.ensures ∙ many_rows a.p a.n a.q a.k d.before.before.if-p-q.false d.before.if-n-k.false (sym d.is_rows.ensures ∙ not-false _ c.before.before.if-not-is_rows.false-raw) c.before.if-n-gt-ROWS.true
 
 accepted-requires : tie.Need-accepted-requires
 accepted-requires c κs = search rules
 
-returns-5 : tie.Need-returns-5
+returns-5 : tie.Need-returns
 returns-5 c =
     let d = c.before.before.before in
     let a = d.before.before.before.args in
-    c.accepted.ensures ∙ right-rows a.p a.n a.q a.k d.before.before.if1.false d.before.if2.false (sym d.is-rows.ensures ∙ not-false _ c.before.before.if3.false) c.before.if4.false
+    c.accepted.ensures ∙ right-rows a.p a.n a.q a.k d.before.before.if-p-q.false d.before.if-n-k.false (sym d.is_rows.ensures ∙ not-false _ c.before.before.if-not-is_rows.false-raw) c.before.if-n-gt-ROWS.false
 
-pub decide-pair-spec : {M : Type 1} → statement M
-decide-pair-spec =
+pub decide_pair_spec : {M : Type 1} → statement M
+decide_pair_spec =
     tie.close
     (tie.spec
     refused-requires

@@ -26,30 +26,30 @@ module _ (n l m i : ℕ) where
   unfolding source_row
   four f g h = rw (le-ltb i l f, le-ltb i (l + m) g, le-ltb i (n + m) h)
 
-returns : tie.Need-returns
-returns c = one _ _ _ _ c.if1.true
+returns : tie.Need-returns-then-i-l
+returns c = one _ _ _ _ c.if-i-l.true
 
-add-if2 : tie.Need-overflow-add-if2
+add-if2 : tie.Need-overflow_add-l
 add-if2 c = search rules
 
-returns-2 : tie.Need-returns-2
-returns-2 c = two _ _ _ _ c.before.if1.false c.if2.true
+returns-2 : tie.Need-returns-then-i-l-2
+returns-2 c = two _ _ _ _ c.before.if-i-l.false c.if-i-l-2.true
 
-add-if3 : tie.Need-overflow-add-if3
+add-if3 : tie.Need-overflow_add-n
 add-if3 c = search rules
 
-sub-t8 : tie.Need-overflow-sub-t8
+sub-t8 : tie.Need-overflow_sub-result-then-i-n
 sub-t8 c = search rules
 
-returns-3 : tie.Need-returns-3
-returns-3 c = three _ _ _ _ c.before.before.if1.false c.before.if2.false c.if3.true
+returns-3 : tie.Need-returns-then-i-n
+returns-3 c = three _ _ _ _ c.before.before.if-i-l.false c.before.if-i-l-2.false c.if-i-n.true
 
-sub-t6 : tie.Need-overflow-sub-t6
+sub-t6 : tie.Need-overflow_sub-result-2
 sub-t6 c = search rules
 
-returns-4 : tie.Need-returns-4
-returns-4 c = four _ _ _ _ c.before.before.if1.false c.before.if2.false c.if3.false
+returns-4 : tie.Need-returns
+returns-4 c = four _ _ _ _ c.before.before.if-i-l.false c.before.if-i-l-2.false c.if-i-n.false
 
-pub source-of-spec : {M : Type 1} → statement M
-source-of-spec =
+pub source_of_spec : {M : Type 1} → statement M
+source_of_spec =
     tie.close (tie.spec returns add-if2 returns-2 add-if3 sub-t8 returns-3 sub-t6 returns-4)
