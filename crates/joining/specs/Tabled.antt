@@ -1,7 +1,7 @@
 -- The tables of two sheets hold the lines of the joined sheet.
 --
 -- OF ONE SHEET s, WITH A TABLE t THAT HOLDS ITS LINES
--- gate_line, contents_line, public_line, challenges_line   the lines of the table are the numbers of the sheet, its labels raised
+-- gate_line, contents_line, public_line_lem, challenges_line   the lines of the table are the numbers of the sheet, its labels raised
 -- label_few      its labels are below 3n
 -- OF TWO SHEETS THAT CAN BE JOINED
 -- tables         the tables are what the functions ask

@@ -3,7 +3,7 @@ ghost use Rattle.std.specs.Prelude.{◌≡◌, ◌∷◌, [], ◌≤◌, length}
 ghost use Rattle.field.specs.Reasons.{answer_of, bad_lengths};
 ghost use Rattle.sheet.specs.Sheet.{sheet_rows, new_reasons};
 ghost use Rattle.sheet.specs.Table.{table_length};
-ghost use Rattle.sheet.specs.Deciding.{Decides as Reading-as-Decides};
+ghost use Rattle.sheet.specs.Deciding.{Decides as SheetDecides};
 ghost use Rattle.joining.specs.Joining.{pair_reasons};
 ghost use Rattle.joining.specs.Deciding.{Decides};
 
@@ -57,7 +57,7 @@ fn decide_pair(p: u32, n: u32, q: u32, k: u32) -> Answer
 // is filled where none applies.
 fn decide_new(s: &[u8], table: &mut [u32], long: &[usize], due: &[usize]) -> SheetAnswer
     requires { (length table.old ≡ table_length) × (length long.now ≡ length due.now) × (length due.now ≤ 16) }
-    ensures { Reading-as-Decides s.now (new_reasons s.now (bad_lengths long.now due.now ∷ [])) result table.new }
+    ensures { SheetDecides s.now (new_reasons s.now (bad_lengths long.now due.now ∷ [])) result table.new }
 {
     let prime = sheet::decide_prime(s);
     let number = prime.number;

@@ -245,13 +245,6 @@ module _ (s : List ℕ) (p n l : ℕ) (selectors labels witness publics challeng
   unfolding tab
   no_blinding = rw back.none_blinded
 
-  elements_below : All (λ (x : ℕ). x < p) (sheet_elements s n l)
-  elements_below =
-      rw (back.selectors_are, back.witness_is, back.publics_are, back.challenges_are, no_blinding)
-      (all_append (λ (x : ℕ). x < p) selectors (witness ++ (publics ++ (challenges ++ []))) (selectors-right taken.circuit-right).below
-      (all_append (λ (x : ℕ). x < p) witness (publics ++ (challenges ++ [])) taken.witness_below
-      (all_append (λ (x : ℕ). x < p) publics (challenges ++ []) taken.publics_below (all_append (λ (x : ℕ). x < p) challenges [] taken.challenges_below tt))))
-
   lent_labels_below : All (λ (x : ℕ). x < 3 * n) (tab (on_labels s n l) (labels_length n))
   lent_labels_below = rw back.labels_are (labels_right taken.circuit-right).below
 
@@ -276,3 +269,10 @@ module _ (s : List ℕ) (p n l : ℕ) (selectors labels witness publics challeng
         back.none_blinded,
         le-ltb (plain_lines n l) (lines_due 0 n l) (omega arith),
       ))
+    where
+      elements_below : All (λ (x : ℕ). x < p) (sheet_elements s n l)
+      elements_below =
+          rw (back.selectors_are, back.witness_is, back.publics_are, back.challenges_are, no_blinding)
+          (all_append (λ (x : ℕ). x < p) selectors (witness ++ (publics ++ (challenges ++ []))) (selectors-right taken.circuit-right).below
+          (all_append (λ (x : ℕ). x < p) witness (publics ++ (challenges ++ [])) taken.witness_below
+          (all_append (λ (x : ℕ). x < p) publics (challenges ++ []) taken.publics_below (all_append (λ (x : ℕ). x < p) challenges [] taken.challenges_below tt))))
