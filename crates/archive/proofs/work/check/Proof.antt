@@ -10,29 +10,29 @@ use Rattle.archive.proofs.work.check.Statement.{statement}
 use Rattle.archive.proofs.work.check.Tie as tie
 
 -- the scratch has room
-fits : (c : tie.After-scratch-room) → c.before.work-length.result ≤ length c.scratch-room.result
-fits c = omega (arith, c.scratch-room.ensures, c.before.work-length.ensures, c.before.before.before.before.before.before.requires.few)
+fits : (c : tie.After-scratch_room-scratch) → c.before.work_length-end.result ≤ length c.scratch_room-scratch.result
+fits c = omega (arith, c.scratch_room-scratch.ensures, c.before.work_length-end.ensures, c.before.before.before.before.before.before.requires.few)
 
-work-length-requires : tie.Need-work-length-requires
+work-length-requires : tie.Need-work_length-end-requires
 work-length-requires c κs = search rules
 
-scratch-room-requires : tie.Need-scratch-room-requires
+scratch-room-requires : tie.Need-scratch_room-scratch-requires
 scratch-room-requires c κs = search rules
 
-array-borrow-prefix-scratch : tie.Need-array-borrow-prefix-scratch
+array-borrow-prefix-scratch : tie.Need-slice_bounds-scratch-end
 array-borrow-prefix-scratch c = search rules
 
-slice-aggregate-check-point : tie.Need-slice-aggregate-check-point
+slice-aggregate-check-point : tie.Need-slice_bounds-check_point-end
 slice-aggregate-check-point c = sym (length-take-le _ _ (fits c.before))
 
-check-point-requires : tie.Need-check-point-requires
+check-point-requires : tie.Need-check_point-answer-requires
 check-point-requires c κs = search rules
 
 returns : tie.Need-returns
-returns c = judged_of _ _ _ c.before.before.before.before.before.before.before.before.before.requires (length-take-le _ _ (fits c.before.before.before) ∙ c.before.before.before.before.work-length.ensures) c.before.check-point.ensures
+returns c = judged_of _ _ _ c.before.before.before.before.before.before.before.before.before.requires (length-take-le _ _ (fits c.before.before.before) ∙ c.before.before.before.before.work_length-end.ensures) c.before.check_point-answer.ensures
 
-pub check-spec : {M : Type 1} → statement M
-check-spec =
+pub check_spec : {M : Type 1} → statement M
+check_spec =
     tie.close
     (tie.spec
     work-length-requires

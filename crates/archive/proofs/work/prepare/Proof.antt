@@ -10,35 +10,35 @@ use Rattle.archive.proofs.work.prepare.Statement.{statement}
 use Rattle.archive.proofs.work.prepare.Tie as tie
 
 -- the scratch has room
-fits : (c : tie.After-scratch-room) → c.before.scratch-length.result ≤ length c.scratch-room.result
-fits c = omega (arith, c.scratch-room.ensures, c.before.scratch-length.ensures, c.before.before.before.before.before.requires.0)
+fits : (c : tie.After-scratch_room-scratch) → c.before.scratch_length-end.result ≤ length c.scratch_room-scratch.result
+fits c = omega (arith, c.scratch_room-scratch.ensures, c.before.scratch_length-end.ensures, c.before.before.before.before.before.requires.0)
 
-scratch-length-requires : tie.Need-scratch-length-requires
+scratch-length-requires : tie.Need-scratch_length-end-requires
 scratch-length-requires c κs = search rules
 
-scratch-room-requires : tie.Need-scratch-room-requires
+scratch-room-requires : tie.Need-scratch_room-scratch-requires
 scratch-room-requires c κs = search rules
 
-array-borrow-prefix-scratch : tie.Need-array-borrow-prefix-scratch
+array-borrow-prefix-scratch : tie.Need-slice_bounds-scratch-end
 array-borrow-prefix-scratch c = search rules
 
-slice-aggregate-prepare : tie.Need-slice-aggregate-prepare
+slice-aggregate-prepare : tie.Need-slice_bounds-prepare-end
 slice-aggregate-prepare c = sym (length-take-le _ _ (fits c.before.before))
 
 prepare-requires : tie.Need-prepare-requires
 prepare-requires c κs = search rules
 
-same_length : tie.Need-same-length
+same_length : tie.Need-shape_of-prepared
 same_length c = search rules
 
 returns : tie.Need-returns
 returns c =
     let s = c.before.before.before.before.before.before.before.before.before.before.before in
-    prepared_of s.args.selectors.now s.args.labels.now _ _ _ _ _ s.requires.1 s.requires.2 s.requires.3 (length-take-le _ _ (fits c.before.before.before.before.before.before) ∙ c.before.before.before.before.before.before.before.scratch-length.ensures)
+    prepared_of s.args.selectors.now s.args.labels.now _ _ _ _ _ s.requires.1 s.requires.2 s.requires.3 (length-take-le _ _ (fits c.before.before.before.before.before.before) ∙ c.before.before.before.before.before.before.before.scratch_length-end.ensures)
     c.before.before.before.prepare.ensures
 
-pub prepare-spec : {M : Type 1} → statement M
-prepare-spec =
+pub prepare_spec : {M : Type 1} → statement M
+prepare_spec =
     tie.close
     (tie.spec
     scratch-length-requires
