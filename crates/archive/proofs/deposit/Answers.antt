@@ -2,7 +2,6 @@
 use mathlib.Core.Path.{◌≡◌}
 use native.Mathlib.Omega.{arith}
 use lib.ListN.{length}
-use borrow.Author.Rules.{rules}
 use Rattle.archive.specs.Printed.{text_length}
 use Rattle.text.specs.Puts.{puts_fits, puts_cleared}
 use Rattle.archive.specs.Sheets.{refused_deposit, text_long, made_deposit}

@@ -6,7 +6,6 @@ use mathlib.Core.List.{List}
 use Prim.Native.Nat.{ℕ, ◌*◌, ◌≤◌}
 use native.Mathlib.Omega.{arith}
 use lib.ListN.{take, drop}
-use borrow.Author.Rules.{rules}
 use Rattle.circuit.specs.Buffers.{blinder_count, selectors_length, labels_length, witness_length}
 use Rattle.sheet.specs.Sheet.{challenge_count}
 use Rattle.text.specs.Text.{refused_text}

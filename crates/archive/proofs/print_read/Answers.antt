@@ -5,7 +5,6 @@ use Prim.Native.Nat.{ℕ, ◌+◌, ◌*◌, ◌-◌}
 use native.Mathlib.Omega.{arith}
 use lib.ListN.{take, drop}
 use lib.Seq.{length-take-le}
-use borrow.Author.Rules.{rules}
 use Rattle.circuit.specs.Buffers.{blinder_count, selectors_length, labels_length, witness_length}
 use Rattle.sheet.specs.Sheet.{challenge_count}
 use Rattle.archive.specs.Work.{Workable}

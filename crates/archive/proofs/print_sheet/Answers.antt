@@ -2,7 +2,6 @@
 use mathlib.Core.Path.{subst}
 use mathlib.Core.List.{List}
 use Prim.Native.Nat.{ℕ}
-use borrow.Author.Rules.{rules}
 use Rattle.text.specs.Puts.{Puts}
 use Rattle.sheet.specs.Deciding.{new_current}
 use Rattle.archive.specs.Sheets.{prime_text}

@@ -1,5 +1,4 @@
 -- `archive::lines::put_judged` meets its contract: nothing, or the line of the verdict. Assumes nothing.
-use borrow.Author.Rules.{rules}
 use Rattle.text.specs.Puts.{puts_none}
 use Rattle.archive.proofs.lines.put_judged.Goals as goal
 

@@ -4,7 +4,6 @@ use mathlib.Core.List.{List}
 use Prim.Native.Nat.{ℕ}
 use native.Mathlib.Omega.{arith}
 use lib.ListN.{length, length-drop}
-use borrow.Author.Rules.{rules}
 use Rattle.circuit.specs.Buffers.{t_start}
 use Rattle.text.specs.Puts.{Puts, puts_both}
 use Rattle.archive.specs.Lines.{length_wires}

@@ -5,7 +5,6 @@ use Prim.Native.Nat.{ℕ, ◌≤◌}
 use native.Mathlib.Omega.{arith}
 use lib.ListN.{length, take, drop}
 use lib.Seq.{length-take-le}
-use borrow.Author.Rules.{rules}
 use Rattle.algebra.specs.Ends.{front_fits, front_is}
 use Rattle.circuit.specs.Circuit.{lent_constraints}
 use Rattle.protocol.specs.Protocol.{prepared}

@@ -4,7 +4,6 @@ use Prim.Native.Nat.{◌≤◌}
 use native.Mathlib.Omega.{arith}
 use lib.ListN.{length}
 use lib.Seq.{length-take-le}
-use borrow.Author.Rules.{rules}
 use Rattle.archive.specs.Work.{lays_of}
 use Rattle.archive.proofs.work.lay.Goals as goal
 use Rattle.archive.proofs.work.lay.Goals.{After-scratch_room-scratch}

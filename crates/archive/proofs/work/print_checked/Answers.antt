@@ -1,7 +1,6 @@
 -- `archive::work::print_checked` meets its contract: the lines of the polynomials, and that of the verdict. Assumes nothing.
 use mathlib.Core.Path.{subst}
 use native.Mathlib.Omega.{arith}
-use borrow.Author.Rules.{rules}
 use Rattle.pointcheck.specs.declared.Judged.{Judged}
 use Rattle.archive.specs.Printed.{judged_text}
 use Rattle.text.specs.Puts.{Puts, puts_both}

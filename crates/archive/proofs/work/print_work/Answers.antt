@@ -6,7 +6,6 @@ use Prim.Native.Nat.{ℕ, ◌≤◌}
 use native.Mathlib.Omega.{arith}
 use lib.ListN.{length, take, drop}
 use lib.Seq.{length-take-le}
-use borrow.Author.Rules.{rules}
 use Rattle.algebra.specs.Ends.{front_fits, front_is}
 use Rattle.prover.specs.Promises.{proved_from}
 use Rattle.archive.specs.Printed.{work_answer}
