@@ -10,7 +10,8 @@ use Rattle.std.proofs.Common.{arith, length-append, eqb-true}
 use Rattle.algebra.specs.Polynomial.{Elements}
 use Rattle.field.specs.declared.Answer.{Answer}
 use Rattle.field.specs.Primes.{rows-power}
-use Rattle.field.specs.Domain.{Domain, domain}
+use Rattle.field.specs.Domain.{Domain}
+use Rattle.field.proofs.Domain.{domain}
 use Rattle.field.specs.Reasons.{is_accepted}
 use Rattle.circuit.specs.Circuit.{Constraints, lent_constraints, lent_public, lent_witness}
 use Rattle.circuit.specs.Buffers.{transcript_length}

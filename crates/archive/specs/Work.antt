@@ -30,7 +30,7 @@ use Rattle.algebra.specs.Polynomial.{Elements}
 use Rattle.field.specs.declared.Answer.{Answer}
 use Rattle.field.specs.Fields.{Admissible}
 use Rattle.field.specs.Primes.{rows-power}
-use Rattle.field.specs.Domain.{domain}
+use Rattle.field.proofs.Domain.{domain}
 use Rattle.field.specs.Reasons.{answer_of, is_accepted}
 use Rattle.transform.specs.Transform.{scratch_length}
 use Rattle.circuit.specs.Circuit.{lent_constraints, lent_public, lent_witness}
