@@ -1,11 +1,11 @@
 -- The text of a deposit, and what `deposit` promises.
 --
 -- deposit_text_with L s   the text of a sheet: why it is turned down as a new sheet, or else the text of its numbers, the witness being lent by the layout L; its transcript is
---                       blinded where the sheet has a line of blinders
--- deposit_due            the lengths due of the sheet, which has whatever length it has, and of the text
--- deposit_reasons        of `deposit`
--- DepositsWith L        refused: the buffer as it came; accepted: the text, and zeros behind it
--- deposit_text, Deposits   the same by the layout of today
+--                         blinded where the sheet has a line of blinders
+-- deposit_due             the lengths due of the sheet, which has whatever length it has, and of the text
+-- deposit_reasons         of `deposit`
+-- DepositsWith L          refused: the buffer as it came; accepted: the text, and zeros behind it
+-- deposit_text, Deposits  the same by the layout of today
 --
 -- Assumes nothing.
 use Rattle.std.specs.Prelude.{◌≡◌, cond, List, [], ◌∷◌, ◌++◌, ℕ, ◌-◌, length, replicate}

@@ -1,18 +1,18 @@
 -- The printed text of a deposit (document 01, "The sheet"), in bytes.
 --
 -- LINES
--- accept_word, reject_word the words `accept`, `reject`
--- letter_line c vs        the line of a polynomial: its letter and its coefficients
--- verdict_text v          the line of a point verdict
--- judged_text v           the same for the enum of `check_point`
--- transcript_text e       the lines of a, b, c, z, t of a lent transcript
--- text_length             the length of the lent buffer
+-- accept_word, reject_word  the words `accept`, `reject`
+-- letter_line c vs          the line of a polynomial: its letter and its coefficients
+-- verdict_text v            the line of a point verdict
+-- judged_text v             the same for the enum of `check_point`
+-- transcript_text e         the lines of a, b, c, z, t of a lent transcript
+-- text_length               the length of the lent buffer
 -- THE TEXT OF A DEPOSIT
--- proved_text e           the lines of a transcript and of the verdict on it, of constraints, public inputs and beta, gamma, alpha, zeta
--- work_answer_with L e     the prover's answer for a sheet's numbers, the witness being lent by the layout L
--- work_transcript_with L e the transcript that it lays for them; none if refused
--- work_text_with L e       proved_text of it, or the refusal
--- work_answer, work_transcript, work_text   the same by the layout of today
+-- proved_text e             the lines of a transcript and of the verdict on it, of constraints, public inputs and beta, gamma, alpha, zeta
+-- work_answer_with L e      the prover's answer for a sheet's numbers, the witness being lent by the layout L
+-- work_transcript_with L e  the transcript that it lays for them; none if refused
+-- work_text_with L e        proved_text of it, or the refusal
+-- work_answer, work_transcript, work_text  the same by the layout of today
 --
 -- The number e is 1 where the transcript is blinded, by the sheet's blinders, and 0 where it is not.
 -- Assumes nothing.
