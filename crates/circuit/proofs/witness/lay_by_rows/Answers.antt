@@ -1,34 +1,30 @@
--- `circuit::witness::lay_by_rows` meets its contract: after j turns the first j numbers are laid. Assumes nothing.
-use mathlib.Core.Path.{◌≡◌, refl, ap, ◌∙◌}
-use mathlib.Core.List.{◌++◌}
-use Prim.Native.Nat.{◌*◌, ◌-◌, ◌≤◌, ◌<◌}
-use native.Mathlib.Omega.{arith}
-use lib.ListN.{length, get_or, drop, length-set}
-use borrow.Author.Rules.{rules}
+-- The position that a turn reads is one of the 3n.
+use Rattle.std.proofs.Common.{ℕ, ◌≡◌, ◌*◌, ◌<◌, refl, ap, ◌∙◌, get_or, arith, rules}
+use Rattle.std.proofs.Math.ListN.{length-set}
 use Rattle.algebra.specs.Lists.{tab}
 use Rattle.algebra.specs.Tables.{wrote_none, wrote_more, wrote_all}
 use Rattle.circuit.specs.Circuit.{witness_position, laid_by, by_rows}
 use Rattle.circuit.specs.Witness.{position_below}
 use Rattle.circuit.proofs.witness.lay_by_rows.Goals as goal
+use Rattle.circuit.proofs.witness.lay_by_rows.Goals.{In-loop-j}
+
+inside : (c : In-loop-j) → witness_position c.args.n c.loop-j.j < 3 * c.args.n
+inside c = position_below c.args.n c.loop-j.j (omega (arith, c.requires.2, c.loop-j.invariant.2))
 
 pub loop-j-init : goal.loop-j-init
 loop-j-init c = (search rules, wrote_none _ _, search rules)
 
 pub overflow_mul-out : goal.overflow_mul-out
-overflow_mul-out c =
-    omega (arith, (let it : witness_position c.args.n c.loop-j.j < 3 * c.args.n = position_below c.args.n c.loop-j.j (omega (arith, c.requires.2, c.loop-j.invariant.2)) in it))
+overflow_mul-out c = omega (arith, inside (goal.at.overflow_mul-out c).In-loop-j)
 
 pub overflow_add-out : goal.overflow_add-out
-overflow_add-out c =
-    omega (arith, (let it : witness_position c.args.n c.loop-j.j < 3 * c.args.n = position_below c.args.n c.loop-j.j (omega (arith, c.requires.2, c.loop-j.invariant.2)) in it))
+overflow_add-out c = omega (arith, inside (goal.at.overflow_add-out c).In-loop-j)
 
 pub offset_bounds-values-j : goal.offset_bounds-values-j
-offset_bounds-values-j c =
-    omega (arith, (let it : witness_position c.args.n c.loop-j.j < 3 * c.args.n = position_below c.args.n c.loop-j.j (omega (arith, c.requires.2, c.loop-j.invariant.2)) in it))
+offset_bounds-values-j c = omega (arith, inside (goal.at.offset_bounds-values-j c).In-loop-j)
 
 pub bounds-values-j : goal.bounds-values-j
-bounds-values-j c =
-    omega (arith, (let it : witness_position c.args.n c.loop-j.j < 3 * c.args.n = position_below c.args.n c.loop-j.j (omega (arith, c.requires.2, c.loop-j.invariant.2)) in it))
+bounds-values-j c = omega (arith, inside (goal.at.bounds-values-j c).In-loop-j)
 
 pub loop-j-preserved : goal.loop-j-preserved
 loop-j-preserved c =
