@@ -75,7 +75,7 @@ fn transcript(s: Shape, text: &[u8], words: &mut [u32]) -> usize {
 }
 
 // Whether a text has this verdict at a place.
-fn is_due(text: &[u8], at: usize, v: Judged) -> bool {
+fn is_due(text: &[u8], at: usize, v: &Judged) -> bool {
     match v {
         Judged::None => false,
         Judged::Accept => says(text, at, b"accept\n"),
@@ -117,9 +117,10 @@ fn print_new(rt: HostRuntime, s: Shape, words: &Words, sheet: &[u8], filed: &[u8
 fn print_lines(rt: HostRuntime, s: Shape, words: &Words, sheet: &[u8], text: &[u8], at: usize) {
     let end = circuits::WITNESS + 3 * (s.n as usize);
     let v = circuits::point(s, words);
+    let due = is_due(text, at, &v);
     print::numbers(rt, &[s.p, s.n, s.l]);
     circuits::print_judged(rt, v);
-    print::either(rt, is_due(text, at, v), b"as filed", b"NOT AS FILED");
+    print::either(rt, due, b"as filed", b"NOT AS FILED");
     circuits::print_points(rt, s, words);
     circuits::print_rows(rt, s, words);
     circuits::change_t(rt, s, words);
