@@ -5,24 +5,24 @@ use borrow.Author.Rules.{rules}
 use Rattle.exports.proofs.guppyspoon_deposit.Statement.{statement}
 use Rattle.exports.proofs.guppyspoon_deposit.Tie as tie
 
-deposit-requires : tie.Need-deposit-requires
+deposit-requires : tie.Need-deposit-r-requires
 deposit-requires c κs = search rules
 
-cast-put-count : tie.Need-overflow-cast-put-count
-cast-put-count c = omega (arith, deposit_fits _ _ _ _ c.before.before.before.before.deposit.ensures)
+cast-put-count : tie.Need-overflow_cast-r
+cast-put-count c = omega (arith, deposit_fits _ _ _ _ c.before.before.before.before.deposit-r.ensures)
 
-put-count-requires : tie.Need-put-count-requires
+put-count-requires : tie.Need-put_count-requires
 put-count-requires c κs = search rules
 
-same_length : tie.Need-same-length
+same_length : tie.Need-shape_of-text
 same_length c = search rules
 
-same-length-2 : tie.Need-same-length-2
+same-length-2 : tie.Need-shape_of-answer
 same-length-2 c = search rules
 
 returns : tie.Need-returns
 returns c = search rules
 
-pub guppyspoon-deposit-spec : {M : Type 1} → statement M
-guppyspoon-deposit-spec =
+pub guppyspoon_deposit_spec : {M : Type 1} → statement M
+guppyspoon_deposit_spec =
     tie.close (tie.spec deposit-requires cast-put-count put-count-requires same_length same-length-2 returns)

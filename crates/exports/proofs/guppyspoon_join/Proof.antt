@@ -5,24 +5,24 @@ use borrow.Author.Rules.{rules}
 use Rattle.exports.proofs.guppyspoon_join.Statement.{statement}
 use Rattle.exports.proofs.guppyspoon_join.Tie as tie
 
-join-requires : tie.Need-join-requires
+join-requires : tie.Need-join-r-requires
 join-requires c κs = search rules
 
-cast-put-count : tie.Need-overflow-cast-put-count
-cast-put-count c = omega (arith, join_fits _ _ _ _ _ c.before.before.before.before.join.ensures)
+cast-put-count : tie.Need-overflow_cast-r
+cast-put-count c = omega (arith, join_fits _ _ _ _ _ c.before.before.before.before.join-r.ensures)
 
-put-count-requires : tie.Need-put-count-requires
+put-count-requires : tie.Need-put_count-requires
 put-count-requires c κs = search rules
 
-same_length : tie.Need-same-length
+same_length : tie.Need-shape_of-joined
 same_length c = search rules
 
-same-length-2 : tie.Need-same-length-2
+same-length-2 : tie.Need-shape_of-answer
 same-length-2 c = search rules
 
 returns : tie.Need-returns
 returns c = search rules
 
-pub guppyspoon-join-spec : {M : Type 1} → statement M
-guppyspoon-join-spec =
+pub guppyspoon_join_spec : {M : Type 1} → statement M
+guppyspoon_join_spec =
     tie.close (tie.spec join-requires cast-put-count put-count-requires same_length same-length-2 returns)

@@ -5,20 +5,20 @@ use borrow.Author.Rules.{rules}
 use Rattle.exports.proofs.words.put.Statement.{statement}
 use Rattle.exports.proofs.words.put.Tie as tie
 
-mul-buffer : tie.Need-overflow-mul-buffer
+mul-buffer : tie.Need-offset_bounds-buffer-place
 mul-buffer c = search rules
 
-slice-write-buffer : tie.Need-slice-write-buffer
+slice-write-buffer : tie.Need-bounds-buffer-place
 slice-write-buffer c = search rules
 
-same_length : tie.Need-same-length
+same_length : tie.Need-shape_of-buffer
 same_length c = search rules
 
-returns : tie.Need-returns
+returns : tie.Need-returns-then-place-buffer
 returns c = search rules
 
-returns-2 : tie.Need-returns-2
-returns-2 c = sym (set_out _ _ _ c.if1.false)
+returns-2 : tie.Need-returns-else-place-buffer
+returns-2 c = sym (set_out _ _ _ c.if-place-buffer.false)
 
 pub put_spec : {M : Type 1} → statement M
 put_spec = tie.close (tie.spec mul-buffer slice-write-buffer same_length returns returns-2)

@@ -10,13 +10,13 @@ put-requires c κs = search rules
 put-requires-2 : tie.Need-put-requires-2
 put-requires-2 c κs = search rules
 
-same_length : tie.Need-same-length
+same_length : tie.Need-shape_of-buffer
 same_length c = search rules
 
 returns : tie.Need-returns
 returns c =
     let a = c.before.before.before.before.before.before.before.before.before.args in
-    two a.r.number a.r.detail a.buffer.now c.before.before.before.before.before.before.put.ensures c.before.before.put2.ensures
+    two a.r.number a.r.detail a.buffer.now c.before.before.before.before.before.before.put.ensures c.before.before.put-2.ensures
 
-pub put-answer-spec : {M : Type 1} → statement M
-put-answer-spec = tie.close (tie.spec put-requires put-requires-2 same_length returns)
+pub put_answer_spec : {M : Type 1} → statement M
+put_answer_spec = tie.close (tie.spec put-requires put-requires-2 same_length returns)

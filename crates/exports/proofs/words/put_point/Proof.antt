@@ -5,25 +5,25 @@ use borrow.Author.Rules.{rules}
 use Rattle.exports.proofs.words.put_point.Statement.{statement}
 use Rattle.exports.proofs.words.put_point.Tie as tie
 
-put-answer-requires : tie.Need-put-answer-requires
+put-answer-requires : tie.Need-put_answer-requires
 put-answer-requires c κs = search rules
 
-judged-word-requires : tie.Need-judged-word-requires
+judged-word-requires : tie.Need-judged_word-requires
 judged-word-requires c κs = search rules
 
 put-requires : tie.Need-put-requires
 put-requires c κs = search rules
 
-same_length : tie.Need-same-length
+same_length : tie.Need-shape_of-buffer
 same_length c = search rules
 
 returns : tie.Need-returns
 returns c =
     let a = c.before.before.before.before.before.before.before.before.before.before.before.args in
-    three a.r.answer.number a.r.answer.detail (judged_word a.r.verdict) a.buffer.now c.before.before.before.before.before.before.before.put-answer.ensures
-    c.before.before.before.judged-word.ensures
+    three a.r.answer.number a.r.answer.detail (judged_word a.r.verdict) a.buffer.now c.before.before.before.before.before.before.before.put_answer.ensures
+    c.before.before.before.judged_word.ensures
     c.before.before.put.ensures
 
-pub put-point-spec : {M : Type 1} → statement M
-put-point-spec =
+pub put_point_spec : {M : Type 1} → statement M
+put_point_spec =
     tie.close (tie.spec put-answer-requires judged-word-requires put-requires same_length returns)
