@@ -57,8 +57,14 @@ def spelled(name, words):
     return out
 
 
+# definitions inside a module's block, which the patterns above pass over
+INSIDE = """subP ofOne ofTwo ofPair evaluationsOf mixtureOf openingOf openingVerdict lentListReasons openingReasons openReasons checkReasons gateIdentity
+sheetLine ofWitness gateTest startTest stepTest gateHere badStart lentTest labelsOf tooGreat""".split()
+
+
 def table():
     every, words = names()
+    every |= set(INSIDE)
     rows = {}
     for name in every:
         new = spelled(name, words)

@@ -21,7 +21,7 @@ use Rattle.algebra.specs.Congruence.{Cong, cong, ◌⨾◌, back, cong_add, cong
 use Rattle.algebra.specs.Primes.{euclid, one_nonzero}
 use Rattle.algebra.specs.PolynomialLaws.{eval_add, eval_scale, length-add, length_scale, coef-add, coef_scale}
 use Rattle.algebra.specs.Counting.{at_most_key, at_most_image}
-use Rattle.algebra.specs.Roots.{roots, subP, eval_sub, coef-sub, length-sub}
+use Rattle.algebra.specs.Roots.{roots, sub_p, eval_sub, coef-sub, length-sub}
 use Rattle.algebra.specs.Products.{prod_n_ext, prod_n_cong, prod_n_nonzero, prod_n_perm}
 
 abbrev pub PairPasses : ℕ → ℕ → (ℕ → ℕ) → (ℕ → ℕ) → (ℕ → ℕ) → (ℕ × ℕ) → Type 0
@@ -186,27 +186,27 @@ module _ (q : ℕ) where
       right = side d v (λ k. m (σ k)) k0 (omega arith) g
 
       -- the highest coefficient of the difference is (v (σ k0) - v k0) × the product of the gaps
-      highest_nonzero : Cong (suc q) (coef (subP q left.poly right.poly) d) 0 → ⊥
+      highest_nonzero : Cong (suc q) (coef (sub_p q left.poly right.poly) d) 0 → ⊥
       highest_nonzero z = ⊎_elim gaps_nonzero (λ e. differ (cong_same e)) (euclid {a = Q} {b = v (σ k0) + q * v k0} P top)
         where
           Q : ℕ
           Q = prod_n (suc d) gap
 
-          lead : coef (subP q left.poly right.poly) d ≡ (v (σ k0) + g) * Q + q * ((v k0 + g) * Q)
+          lead : coef (sub_p q left.poly right.poly) d ≡ (v (σ k0) + g) * Q + q * ((v k0 + g) * Q)
           lead = rw (coef-sub q left.poly right.poly d, left.top, right.top, same_gaps)
 
           top : Cong (suc q) (Q * (v (σ k0) + q * v k0)) 0
           top =
               back (cong_add {a = Q * (v (σ k0) + q * v k0)} (cong refl) (cong_neg (g * Q)) ⨾ cong (omega arith))
-              ⨾ cong {b = coef (subP q left.poly right.poly) d} (omega (arith, lead)) ⨾ z
+              ⨾ cong {b = coef (sub_p q left.poly right.poly) d} (omega (arith, lead)) ⨾ z
 
       line : AtMost d (OnLine g)
       unfolding left right
       line =
-          at_most_image {Q = λ β. Root (suc q) (subP q left.poly right.poly) β × (β < suc q)} (λ s. s.0) to inj
-          (roots q P d (subP q left.poly right.poly) d (omega (arith, length-sub q left.poly right.poly, left.short, right.short)) highest_nonzero)
+          at_most_image {Q = λ β. Root (suc q) (sub_p q left.poly right.poly) β × (β < suc q)} (λ s. s.0) to inj
+          (roots q P d (sub_p q left.poly right.poly) d (omega (arith, length-sub q left.poly right.poly, left.short, right.short)) highest_nonzero)
         where
-          to : (s : ℕ × ℕ) → OnLine g s → Root (suc q) (subP q left.poly right.poly) s.0 × (s.0 < suc q)
+          to : (s : ℕ × ℕ) → OnLine g s → Root (suc q) (sub_p q left.poly right.poly) s.0 × (s.0 < suc q)
           to s h =
               let e : Cong (suc q) (s.1 + s.0 * m (σ k0)) g = back cong_mod ⨾ cong h.1 in (
                 is_0

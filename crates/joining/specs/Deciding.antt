@@ -84,25 +84,25 @@ module _ (one two : List ℕ) (room : ℕ) where
   abbrev lengths : List Reason
   lengths = bad_lengths (length one ∷ length two ∷ room ∷ []) (join_due (length one) (length two)) ∷ []
 
-  abbrev ofOne : List Reason
-  ofOne = new_reasons one lengths
+  abbrev of_one : List Reason
+  of_one = new_reasons one lengths
 
-  abbrev ofTwo : List Reason
-  ofTwo = new_reasons two []
+  abbrev of_two : List Reason
+  of_two = new_reasons two []
 
-  abbrev ofPair : List Reason
-  ofPair = pair_reasons (sheet_p one) (sheet_n one) (sheet_p two) (sheet_n two)
+  abbrev of_pair : List Reason
+  of_pair = pair_reasons (sheet_p one) (sheet_n one) (sheet_p two) (sheet_n two)
 
-  one_numbers : All (λ r. r.number ≢ 0) ofOne
+  one_numbers : All (λ r. r.number ≢ 0) of_one
   one_numbers = new_numbers one lengths (omega arith, tt)
 
-  two_numbers : All (λ r. r.number ≢ 0) ofTwo
+  two_numbers : All (λ r. r.number ≢ 0) of_two
   two_numbers = new_numbers two [] tt
 
-  pub first_refused : (a : Answer) → a ≡ answer_of ofOne → (a.number ≡ 0 → ⊥) → a ≡ answer_of (join_reasons one two room)
-  first_refused a e h = refused_first ofOne (ofTwo ++ ofPair) one_numbers a e h
+  pub first_refused : (a : Answer) → a ≡ answer_of of_one → (a.number ≡ 0 → ⊥) → a ≡ answer_of (join_reasons one two room)
+  first_refused a e h = refused_first of_one (of_two ++ of_pair) one_numbers a e h
 
-  module _ (a : Answer) (e : a ≡ answer_of ofOne) (zero : a.number ≡ 0) where
+  module _ (a : Answer) (e : a ≡ answer_of of_one) (zero : a.number ≡ 0) where
     first_taken : Taken one × ((answer_of lengths).number ≡ 0)
     first_taken = taken_of one lengths (omega arith, tt) (new_of one lengths (sym (ap (λ (b : Answer). b.number) e) ∙ zero)).1
 
@@ -110,15 +110,15 @@ module _ (one two : List ℕ) (room : ℕ) where
     rows_few = first_taken.0.shape.few
 
     -- the second sheet is read with the lengths of the call, which are those due
-    own : (b : Answer) → b ≡ answer_of (new_reasons two lengths) → b ≡ answer_of ofTwo
+    own : (b : Answer) → b ≡ answer_of (new_reasons two lengths) → b ≡ answer_of of_two
     own b f = f ∙ new_own two lengths (omega arith, tt) first_taken.1
 
     pub second_refused : (b : Answer) → b ≡ answer_of (new_reasons two lengths) → (b.number ≡ 0 → ⊥) → b ≡ answer_of (join_reasons one two room)
-    second_refused b f h = refused_later ofOne (ofTwo ++ ofPair) one_numbers a b e zero (refused_first ofTwo ofPair two_numbers b (own b f) h)
+    second_refused b f h = refused_later of_one (of_two ++ of_pair) one_numbers a b e zero (refused_first of_two of_pair two_numbers b (own b f) h)
 
-    pub pair_decided : (b c : Answer) → b ≡ answer_of (new_reasons two lengths) → b.number ≡ 0 → c ≡ answer_of ofPair → c ≡ answer_of (join_reasons one two room)
+    pub pair_decided : (b c : Answer) → b ≡ answer_of (new_reasons two lengths) → b.number ≡ 0 → c ≡ answer_of of_pair → c ≡ answer_of (join_reasons one two room)
     pair_decided b c f z g =
-        refused_later ofOne (ofTwo ++ ofPair) one_numbers a c e zero (refused_later ofTwo ofPair two_numbers b c (own b f) z g)
+        refused_later of_one (of_two ++ of_pair) one_numbers a c e zero (refused_later of_two of_pair two_numbers b c (own b f) z g)
 
   pub first_retired : (bad_first one).applies ≡ false → sheet_p one ≡ 97 → answer_of (join_reasons one two room) ≡ record { number = 16; detail = 0 }
   first_retired h e = sym (first_refused _ (sym (new_retired one lengths h e)) (λ z. omega (arith, z)))
@@ -129,11 +129,11 @@ module _ (one two : List ℕ) (room : ℕ) where
 
   pub joinable_of : (answer_of (join_reasons one two room)).number ≡ 0 → Joinable (on_sheet one) (on_sheet two)
   joinable_of e =
-      let first = both_none ofOne (ofTwo ++ ofPair) one_numbers e in
-      let second = both_none ofTwo ofPair two_numbers first.1 in
+      let first = both_none of_one (of_two ++ of_pair) one_numbers e in
+      let second = both_none of_two of_pair two_numbers first.1 in
       let new = new_of one lengths first.0 in
       let T = (taken_of one lengths (omega arith, tt) new.1).0 in
-      let none = none_applies ofPair (omega arith, (omega arith, tt)) second.1 in
+      let none = none_applies of_pair (omega arith, (omega arith, tt)) second.1 in
       let same = (and-eq-true_iff (eqb (sheet_p one) (sheet_p two)) (eqb (sheet_n one) (sheet_n two))).0 (not-false _ none.0) in
       let rows = both_false (not (is_rows (sheet_p one) (2 * sheet_n one))) (ltb sheet_rows (2 * sheet_n one)) none.1.0 in
       record {
@@ -148,7 +148,7 @@ module _ (one two : List ℕ) (room : ℕ) where
 
   pub room_is : (answer_of (join_reasons one two room)).number ≡ 0 → room ≡ joined_length
   room_is e =
-      let first = both_none ofOne (ofTwo ++ ofPair) one_numbers e in
+      let first = both_none of_one (of_two ++ of_pair) one_numbers e in
       let none = none_applies lengths (omega arith, tt) (taken_of one lengths (omega arith, tt) (new_of one lengths first.0).1).1 in
       cc (lengths_same (length one ∷ length two ∷ room ∷ []) (join_due (length one) (length two)) refl none.0)
 

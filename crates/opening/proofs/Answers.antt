@@ -16,7 +16,7 @@ use Rattle.pointcheck.specs.declared.PointAnswer.{PointAnswer}
 use Rattle.pointcheck.specs.declared.Judged.TheVariants.{Accept}
 use Rattle.pointcheck.specs.Buffers.{Readable}
 use Rattle.pointcheck.specs.Verdicts.{accept_of, answer_accept}
-use Rattle.opening.specs.Opening.{evaluationsOf, openingOf, openingVerdict}
+use Rattle.opening.specs.Opening.{evaluations_of, opening_of, opening_verdict}
 use Rattle.opening.specs.Promises.{Opens, ChecksOpening}
 use Rattle.opening.specs.RightlyLent.{LentRightly, opening_known, opening_taken}
 use Rattle.opening.specs.Openings.{Openings}
@@ -24,7 +24,7 @@ use Rattle.opening.proofs.Openings.{openings}
 use Rattle.opening.specs.Answers.{OpeningAccepts}
 
 pub few_mixtures : (e p n : ℕ) (prepared transcript list : List ℕ) → Readable e p n prepared transcript
-    → (point : ℕ) (evaluations : List ℕ) → Elements p (length list) evaluations → evaluations ≢ evaluationsOf e p n prepared transcript list point
+    → (point : ℕ) (evaluations : List ℕ) → Elements p (length list) evaluations → evaluations ≢ evaluations_of e p n prepared transcript list point
     → AtMost (length list - 1) (OpeningAccepts e p n prepared transcript list evaluations point)
 few_mixtures e p n prepared transcript list R point evaluations E wrong =
     at_most_of ((openings e p n prepared transcript list R).sound point evaluations E wrong)
@@ -55,10 +55,10 @@ module _ (p n : ℕ) (prepared transcript list evaluations opening challenges sc
   abbrev m : ℕ
   m = get_or challenges 1 0
 
-  evaluated : evaluations' ≡ evaluationsOf (blinded_by n transcript) p n prepared transcript list (get_or challenges 0 0)
+  evaluated : evaluations' ≡ evaluations_of (blinded_by n transcript) p n prepared transcript list (get_or challenges 0 0)
   evaluated = rw (eq-eqb _ _ taken) at opens.evaluated
 
-  opened : opening' ≡ openingOf (blinded_by n transcript) p n prepared transcript list (get_or challenges 0 0) (get_or challenges 1 0)
+  opened : opening' ≡ opening_of (blinded_by n transcript) p n prepared transcript list (get_or challenges 0 0) (get_or challenges 1 0)
   opened = rw (eq-eqb _ _ taken) at opens.opened
 
   cleared : scratch' ≡ replicate (work_length (blinded_by n transcript) n) 0
@@ -96,5 +96,5 @@ module _ (p n : ℕ) (prepared transcript list evaluations opening challenges sc
   opened-accepted s scratch'' checks =
       let answered : s.answer ≡ record { number = 0; detail = 0 } =
       checks.answer ∙ opening_taken p n prepared transcript list evaluations' opening' challenges scratch' true lent_again elements in
-      let verdict : openingVerdict (blinded_by n transcript) p n prepared transcript list evaluations' opening' point m ≡ accept = rw (evaluated, opened) (O.complete point m) in
+      let verdict : opening_verdict (blinded_by n transcript) p n prepared transcript list evaluations' opening' point m ≡ accept = rw (evaluated, opened) (O.complete point m) in
       checks.verdict ∙ answer_accept s.answer _ answered verdict

@@ -14,14 +14,14 @@ use Rattle.field.specs.declared.Answer.{Answer}
 use Rattle.field.specs.Primes.{rows-power}
 use Rattle.field.specs.Reasons.{answer_of, bad_element}
 use Rattle.field.specs.ReasonLaws.{refused_first}
-use Rattle.opening.specs.Reasons.{lentListReasons, counted, openingReasons}
+use Rattle.opening.specs.Reasons.{lent_list_reasons, counted, opening_reasons}
 use Rattle.opening.specs.RightlyLent.{lent_list_numbers, lent_list_of}
 
 module _ (p n : ℕ) (prepared transcript list evaluations opening challenges scratch : List ℕ) {a : Answer}
-    (e : a ≡ answer_of (lentListReasons p n prepared transcript list evaluations opening challenges scratch)) where
-  pub refused : (checks : Bool) → (a.number ≡ 0 → ⊥) → a ≡ answer_of (openingReasons p n prepared transcript list evaluations opening challenges scratch checks)
+    (e : a ≡ answer_of (lent_list_reasons p n prepared transcript list evaluations opening challenges scratch)) where
+  pub refused : (checks : Bool) → (a.number ≡ 0 → ⊥) → a ≡ answer_of (opening_reasons p n prepared transcript list evaluations opening challenges scratch checks)
   refused checks h =
-      refused_first (lentListReasons p n prepared transcript list evaluations opening challenges scratch)
+      refused_first (lent_list_reasons p n prepared transcript list evaluations opening challenges scratch)
       (bad_element p (counted p n prepared transcript list evaluations opening challenges scratch checks) ∷ [])
       (lent_list_numbers p n prepared transcript list evaluations opening challenges scratch)
       a

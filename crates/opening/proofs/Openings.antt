@@ -26,7 +26,7 @@ use Rattle.field.specs.Lent.{lengths_same}
 use Rattle.circuit.specs.Buffers.{opening_length}
 use Rattle.protocol.specs.Protocol.{accept, reject}
 use Rattle.pointcheck.specs.Buffers.{Readable}
-use Rattle.opening.specs.Opening.{evaluationsOf, mixtureOf, openingOf, openingVerdict}
+use Rattle.opening.specs.Opening.{evaluations_of, mixture_of, opening_of, opening_verdict}
 use Rattle.opening.specs.Mixing.{length-mixture, errors, eval-mixture, no_errors, error_found}
 use Rattle.opening.specs.Openings.{PassingMixture, Openings}
 
@@ -42,35 +42,35 @@ module _ (e q n : ℕ) (prepared transcript list : List ℕ) (R : Readable e (su
   p = suc q
 
   abbrev mixture : List ℕ → ℕ → List ℕ
-  mixture s m = mixtureOf e p n prepared transcript list s m
+  mixture s m = mixture_of e p n prepared transcript list s m
 
   abbrev right : ℕ → List ℕ
-  right point = evaluationsOf e p n prepared transcript list point
+  right point = evaluations_of e p n prepared transcript list point
 
   prime : Prime (suc q)
   prime = field_prime (suc q) R.admissible.one_of_three
 
-  accepted_same : (s h : List ℕ) (point m : ℕ) → openingVerdict e (suc q) n prepared transcript list s h point m ≡ accept
-      → SameP (suc q) (mixtureOf e (suc q) n prepared transcript list s m) (mul_p (linear (suc q) point) h)
-  unfolding openingVerdict
+  accepted_same : (s h : List ℕ) (point m : ℕ) → opening_verdict e (suc q) n prepared transcript list s h point m ≡ accept
+      → SameP (suc q) (mixture_of e (suc q) n prepared transcript list s m) (mul_p (linear (suc q) point) h)
+  unfolding opening_verdict
   accepted_same s h point m holds = tested_same p (mixture s m) (mul_p (linear p point) h) (by_test _ holds)
 
-  same_accepted : (s h : List ℕ) (point m : ℕ) → SameP (suc q) (mixtureOf e (suc q) n prepared transcript list s m) (mul_p (linear (suc q) point) h)
-      → openingVerdict e (suc q) n prepared transcript list s h point m ≡ accept
-  unfolding openingVerdict
+  same_accepted : (s h : List ℕ) (point m : ℕ) → SameP (suc q) (mixture_of e (suc q) n prepared transcript list s m) (mul_p (linear (suc q) point) h)
+      → opening_verdict e (suc q) n prepared transcript list s h point m ≡ accept
+  unfolding opening_verdict
   same_accepted s h point m same =
       ap (λ (b : Bool). elim b [ true ↦ accept | false ↦ reject ]) (same_tested p (mixture s m) (mul_p (linear p point) h) same)
 
-  right_long : (point : ℕ) → Elements (suc q) (length list) (evaluationsOf e (suc q) n prepared transcript list point)
-  unfolding evaluationsOf
+  right_long : (point : ℕ) → Elements (suc q) (length list) (evaluations_of e (suc q) n prepared transcript list point)
+  unfolding evaluations_of
   right_long point = tab_elements _ (length list) (λ k l. mod-lt _ (omega arith))
 
-  opening_long : (point m : ℕ) → Elements (suc q) (opening_length e n) (openingOf e (suc q) n prepared transcript list point m)
-  unfolding openingOf
+  opening_long : (point m : ℕ) → Elements (suc q) (opening_length e n) (opening_of e (suc q) n prepared transcript list point m)
+  unfolding opening_of
   opening_long point m = reduced_elements (opening_length e n) _ (omega arith)
 
   -- the mixture over X - point, not reduced: it has room for its coefficients
-  fits : (s : List ℕ) (point m : ℕ) → length (quotient_linear point (drop 1 (mixtureOf e (suc q) n prepared transcript list s m))) ≤ opening_length e n
+  fits : (s : List ℕ) (point m : ℕ) → length (quotient_linear point (drop 1 (mixture_of e (suc q) n prepared transcript list s m))) ≤ opening_length e n
   fits s point m =
       omega (
         arith,
@@ -80,9 +80,9 @@ module _ (e q n : ℕ) (prepared transcript list : List ℕ) (R : Readable e (su
       )
 
   complete : (point m : ℕ)
-      → openingVerdict e (suc q) n prepared transcript list (evaluationsOf e (suc q) n prepared transcript list point) (openingOf e (suc q) n prepared transcript list point m) point m
+      → opening_verdict e (suc q) n prepared transcript list (evaluations_of e (suc q) n prepared transcript list point) (opening_of e (suc q) n prepared transcript list point m) point m
       ≡ accept
-  unfolding openingOf
+  unfolding opening_of
   complete point m =
       let g = mixture (right point) m in
       let Q = quotient_linear point (drop 1 g) in
@@ -93,9 +93,9 @@ module _ (e q n : ℕ) (prepared transcript list : List ℕ) (R : Readable e (su
       k)
 
   only : (point m : ℕ) (opening : List ℕ) → Elements (suc q) (opening_length e n) opening
-      → openingVerdict e (suc q) n prepared transcript list (evaluationsOf e (suc q) n prepared transcript list point) opening point m ≡ accept
-      → opening ≡ openingOf e (suc q) n prepared transcript list point m
-  unfolding openingOf
+      → opening_verdict e (suc q) n prepared transcript list (evaluations_of e (suc q) n prepared transcript list point) opening point m ≡ accept
+      → opening ≡ opening_of e (suc q) n prepared transcript list point m
+  unfolding opening_of
   only point m opening E holds =
       let g = mixture (right point) m in
       reduced_of p (opening_length e n) opening (quotient_linear point (drop 1 g)) E.long (λ k l.
@@ -103,7 +103,7 @@ module _ (e q n : ℕ) (prepared transcript list : List ℕ) (R : Readable e (su
       ∙ linear_only q point g opening (accepted_same (right point) opening point m holds) k)
 
   -- with an accepted opening polynomial, m is a root of the errors
-  root : (s h : List ℕ) (point m : ℕ) → openingVerdict e (suc q) n prepared transcript list s h point m ≡ accept
+  root : (s h : List ℕ) (point m : ℕ) → opening_verdict e (suc q) n prepared transcript list s h point m ≡ accept
       → Root (suc q) (tab (errors e (suc q) n prepared transcript list s point) (length list)) m
   root s h point m holds =
       is_0
@@ -111,7 +111,7 @@ module _ (e q n : ℕ) (prepared transcript list : List ℕ) (R : Readable e (su
       ⨾ eval_cong (mixture s m) (mul_p (linear p point) h) point point (accepted_same s h point m holds) (cong refl)
       ⨾ linear-root q point h)
 
-  sound : (point : ℕ) (s : List ℕ) → Elements (suc q) (length list) s → s ≢ evaluationsOf e (suc q) n prepared transcript list point
+  sound : (point : ℕ) (s : List ℕ) → Elements (suc q) (length list) s → s ≢ evaluations_of e (suc q) n prepared transcript list point
       → AtMost (length list - 1) (PassingMixture e (suc q) n prepared transcript list s point)
   unfolding first_other
   sound point s E wrong = go (dec_lt (first_other s (right point)) (length (right point)))

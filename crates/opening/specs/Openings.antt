@@ -19,7 +19,7 @@ use Rattle.algebra.specs.Lists.{AtMost}
 use Rattle.algebra.specs.Polynomial.{mul_p, linear, Elements, SameP}
 use Rattle.circuit.specs.Buffers.{opening_length}
 use Rattle.protocol.specs.Protocol.{accept}
-use Rattle.opening.specs.Opening.{evaluationsOf, mixtureOf, openingOf, openingVerdict}
+use Rattle.opening.specs.Opening.{evaluations_of, mixture_of, opening_of, opening_verdict}
 
 -- THE STATEMENT
 
@@ -27,21 +27,21 @@ pub record PassingMixture (e p n : ℕ) (prepared transcript list evaluations : 
   pub m_element : m < p
   pub opening : List ℕ
   pub opening_elements : Elements p (opening_length e n) opening
-  pub accepted : openingVerdict e p n prepared transcript list evaluations opening point m ≡ accept
+  pub accepted : opening_verdict e p n prepared transcript list evaluations opening point m ≡ accept
 
 pub record Openings (e p n : ℕ) (prepared transcript list : List ℕ) : Type 0 where
   pub exact : (evaluations opening : List ℕ) (point m : ℕ)
-      → (openingVerdict e p n prepared transcript list evaluations opening point m ≡ accept
-      → SameP p (mixtureOf e p n prepared transcript list evaluations m) (mul_p (linear p point) opening))
-      × (SameP p (mixtureOf e p n prepared transcript list evaluations m) (mul_p (linear p point) opening)
-      → openingVerdict e p n prepared transcript list evaluations opening point m ≡ accept)
-  pub evaluations_long : (point : ℕ) → Elements p (length list) (evaluationsOf e p n prepared transcript list point)
-  pub opening_long : (point m : ℕ) → Elements p (opening_length e n) (openingOf e p n prepared transcript list point m)
+      → (opening_verdict e p n prepared transcript list evaluations opening point m ≡ accept
+      → SameP p (mixture_of e p n prepared transcript list evaluations m) (mul_p (linear p point) opening))
+      × (SameP p (mixture_of e p n prepared transcript list evaluations m) (mul_p (linear p point) opening)
+      → opening_verdict e p n prepared transcript list evaluations opening point m ≡ accept)
+  pub evaluations_long : (point : ℕ) → Elements p (length list) (evaluations_of e p n prepared transcript list point)
+  pub opening_long : (point m : ℕ) → Elements p (opening_length e n) (opening_of e p n prepared transcript list point m)
   pub complete : (point m : ℕ)
-      → openingVerdict e p n prepared transcript list (evaluationsOf e p n prepared transcript list point) (openingOf e p n prepared transcript list point m) point m ≡ accept
+      → opening_verdict e p n prepared transcript list (evaluations_of e p n prepared transcript list point) (opening_of e p n prepared transcript list point m) point m ≡ accept
   pub only : (point m : ℕ) (opening : List ℕ) → Elements p (opening_length e n) opening
-      → openingVerdict e p n prepared transcript list (evaluationsOf e p n prepared transcript list point) opening point m ≡ accept
-      → opening ≡ openingOf e p n prepared transcript list point m
+      → opening_verdict e p n prepared transcript list (evaluations_of e p n prepared transcript list point) opening point m ≡ accept
+      → opening ≡ opening_of e p n prepared transcript list point m
   pub sound : (point : ℕ) (evaluations : List ℕ) → Elements p (length list) evaluations
-      → evaluations ≢ evaluationsOf e p n prepared transcript list point
+      → evaluations ≢ evaluations_of e p n prepared transcript list point
       → AtMost (length list - 1) (PassingMixture e p n prepared transcript list evaluations point)

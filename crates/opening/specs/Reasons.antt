@@ -5,10 +5,10 @@
 -- bad_list list         12: the list is empty, or longer than there are polynomials by number
 -- bad_number list       13: a number in it is no polynomial's; detail: the first such place in the list
 -- list_reasons list     12 and 13
--- lentListReasons      the reasons of both calls but the last: those of p, n and the lengths, then those of the list
+-- lent_list_reasons      the reasons of both calls but the last: those of p, n and the lengths, then those of the list
 -- counted checks       the elements that 7 counts, end to end: `open` (false) only writes the evaluations and the opening polynomial, and skips them
--- openingReasons       all reasons of `check_opening` (true) or of `open` (false)
--- openReasons, checkReasons   the same by name
+-- opening_reasons       all reasons of `check_opening` (true) or of `open` (false)
+-- open_reasons, check_reasons   the same by name
 --
 -- Assumes nothing.
 use Rattle.std.specs.Prelude.{Bool, true, false, ◌||◌, List, [], ◌∷◌, ◌++◌, ℕ, eqb, ltb, length}
@@ -28,8 +28,8 @@ abbrev pub list_reasons : List ℕ → List Reason
 list_reasons list = bad_list list ∷ bad_number list ∷ []
 
 module _ (p n : ℕ) (prepared transcript list evaluations opening challenges scratch : List ℕ) where
-  abbrev pub lentListReasons : List Reason
-  lentListReasons =
+  abbrev pub lent_list_reasons : List Reason
+  lent_list_reasons =
       lent_reasons p n 0
       (length prepared ∷ length transcript ∷ length list ∷ length evaluations ∷ length opening ∷ length challenges ∷ length scratch ∷ [])
       (opening_due (blinded_by n transcript) n (length list))
@@ -39,11 +39,11 @@ module _ (p n : ℕ) (prepared transcript list evaluations opening challenges sc
   counted true = prepared ++ (transcript ++ (evaluations ++ (opening ++ challenges)))
   counted false = prepared ++ (transcript ++ challenges)
 
-  abbrev pub openingReasons : Bool → List Reason
-  openingReasons checks = lentListReasons ++ (bad_element p (counted checks) ∷ [])
+  abbrev pub opening_reasons : Bool → List Reason
+  opening_reasons checks = lent_list_reasons ++ (bad_element p (counted checks) ∷ [])
 
-  abbrev pub openReasons : List Reason
-  openReasons = openingReasons false
+  abbrev pub open_reasons : List Reason
+  open_reasons = opening_reasons false
 
-  abbrev pub checkReasons : List Reason
-  checkReasons = openingReasons true
+  abbrev pub check_reasons : List Reason
+  check_reasons = opening_reasons true

@@ -17,7 +17,7 @@ use Rattle.field.specs.ReasonLaws.{none_applies, taken, both_none, both_taken, e
 use Rattle.field.specs.Lent.{lent_numbers, lent_of, lent_taken}
 use Rattle.circuit.specs.Buffers.{polynomial_count, work_length, blinded_by}
 use Rattle.circuit.specs.Parts.{blinded_most}
-use Rattle.opening.specs.Reasons.{opening_due, list_reasons, lentListReasons, counted, openingReasons}
+use Rattle.opening.specs.Reasons.{opening_due, list_reasons, lent_list_reasons, counted, opening_reasons}
 use Rattle.opening.specs.Buffers.{Checked}
 
 pub record RightList (list : List ℕ) : Type 0 where
@@ -56,12 +56,12 @@ module _ (p n : ℕ) (prepared transcript list evaluations opening challenges sc
 
   -- the reasons of both calls but the last
   abbrev begun : List Reason
-  begun = lentListReasons p n prepared transcript list evaluations opening challenges scratch
+  begun = lent_list_reasons p n prepared transcript list evaluations opening challenges scratch
 
-  pub lent_list_numbers : All (λ r. r.number ≢ 0) (lentListReasons p n prepared transcript list evaluations opening challenges scratch)
+  pub lent_list_numbers : All (λ r. r.number ≢ 0) (lent_list_reasons p n prepared transcript list evaluations opening challenges scratch)
   lent_list_numbers = (omega arith, (omega arith, (omega arith, (omega arith, (omega arith, (omega arith, tt))))))
 
-  pub lent_list_of : (answer_of (lentListReasons p n prepared transcript list evaluations opening challenges scratch)).number ≡ 0
+  pub lent_list_of : (answer_of (lent_list_reasons p n prepared transcript list evaluations opening challenges scratch)).number ≡ 0
       → LentRightly p n prepared transcript list evaluations opening challenges scratch
   lent_list_of e =
       let due = opening_due (blinded_by n transcript) n (length list) in
@@ -79,7 +79,7 @@ module _ (p n : ℕ) (prepared transcript list evaluations opening challenges sc
       }
 
   pub lent_list_taken : LentRightly p n prepared transcript list evaluations opening challenges scratch
-      → answer_of (lentListReasons p n prepared transcript list evaluations opening challenges scratch) ≡ record { number = 0; detail = 0 }
+      → answer_of (lent_list_reasons p n prepared transcript list evaluations opening challenges scratch) ≡ record { number = 0; detail = 0 }
   lent_list_taken L =
       let due = opening_due (blinded_by n transcript) n (length list) in
       let c = L.checked in
@@ -99,7 +99,7 @@ module _ (p n : ℕ) (prepared transcript list evaluations opening challenges sc
   all checks = counted p n prepared transcript list evaluations opening challenges scratch checks
 
   pub opening_known : (checks : Bool)
-      → (answer_of (openingReasons p n prepared transcript list evaluations opening challenges scratch checks)).number ≡ 0
+      → (answer_of (opening_reasons p n prepared transcript list evaluations opening challenges scratch checks)).number ≡ 0
       → LentRightly p n prepared transcript list evaluations opening challenges scratch
       × All (λ (x : ℕ). x < p) (counted p n prepared transcript list evaluations opening challenges scratch checks)
   opening_known checks e =
@@ -108,7 +108,7 @@ module _ (p n : ℕ) (prepared transcript list evaluations opening challenges sc
 
   pub opening_taken : (checks : Bool) → LentRightly p n prepared transcript list evaluations opening challenges scratch
       → All (λ (x : ℕ). x < p) (counted p n prepared transcript list evaluations opening challenges scratch checks)
-      → answer_of (openingReasons p n prepared transcript list evaluations opening challenges scratch checks) ≡ record { number = 0; detail = 0 }
+      → answer_of (opening_reasons p n prepared transcript list evaluations opening challenges scratch checks) ≡ record { number = 0; detail = 0 }
   opening_taken checks L a =
       both_taken begun (bad_element p (all checks) ∷ []) lent_list_numbers (lent_list_taken L)
       (taken (bad_element p (all checks) ∷ []) (elements_none p (all checks) a, tt))

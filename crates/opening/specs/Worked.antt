@@ -22,8 +22,8 @@ use Rattle.circuit.specs.Buffers.{blinded_by}
 use Rattle.protocol.specs.Protocol.{accept, reject}
 use Rattle.protocol.specs.Protocol as protocol
 use Rattle.protocol.specs.Worked.{circuit, transcript_worked, Value, Case, numbers, answer, at_point, ◌&◌}
-use Rattle.opening.specs.Opening.{polynomial_of, evaluationsOf, mixtureOf, openingOf, openingVerdict}
-use Rattle.opening.specs.Reasons.{openReasons}
+use Rattle.opening.specs.Opening.{polynomial_of, evaluations_of, mixture_of, opening_of, opening_verdict}
+use Rattle.opening.specs.Reasons.{open_reasons}
 
 abbrev pub prepared : List ℕ
 prepared = 9 ∷ 8 ∷ 9 ∷ 8 ∷ 16 ∷ 0 ∷ 9 ∷ 9 ∷ 0 ∷ 0 ∷ 16 ∷ 2 ∷ 6 ∷ 14 ∷ 12 ∷ 4 ∷ []
@@ -32,17 +32,17 @@ abbrev pub transcript : List ℕ
 transcript = transcript_worked
 
 abbrev pub evaluated : List ℕ → ℕ → Value
-evaluated list x = numbers (evaluationsOf 0 17 2 prepared transcript list x)
+evaluated list x = numbers (evaluations_of 0 17 2 prepared transcript list x)
 
 abbrev pub opened : List ℕ → ℕ → ℕ → Value
-opened list x m = numbers (openingOf 0 17 2 prepared transcript list x m)
+opened list x m = numbers (opening_of 0 17 2 prepared transcript list x m)
 
 abbrev pub judged : List ℕ → List ℕ → List ℕ → ℕ → ℕ → Value
-judged list s h x m = at_point (openingVerdict 0 17 2 prepared transcript list s h x m)
+judged list s h x m = at_point (opening_verdict 0 17 2 prepared transcript list s h x m)
 
 -- the evaluations' length is the one due
 abbrev pub answered : List ℕ → Value
-answered list = answer (answer_of (openReasons 17 2 prepared transcript list list (0 ∷ 0 ∷ []) (2 ∷ 3 ∷ []) (replicate 32 0)))
+answered list = answer (answer_of (open_reasons 17 2 prepared transcript list list (0 ∷ 0 ∷ []) (2 ∷ 3 ∷ []) (replicate 32 0)))
 
 -- a, b, c, z and t, and all thirteen
 abbrev pub five : List ℕ
@@ -79,5 +79,5 @@ table =
     ∷ []
 
 pub worked : All (λ r. r.is ≡ r.should) table
-unfolding tab pow_f first inverse reduced is_field is_rows greatest_rows generator root point multiplier tag first_other first_above interpolation permutation laid protocol.prepared polynomial_of evaluationsOf mixtureOf openingOf openingVerdict blinded_by ones
+unfolding tab pow_f first inverse reduced is_field is_rows greatest_rows generator root point multiplier tag first_other first_above interpolation permutation laid protocol.prepared polynomial_of evaluations_of mixture_of opening_of opening_verdict blinded_by ones
 worked = refl & refl & refl & refl & refl & refl & refl & refl & refl & refl & refl & refl & refl & refl & refl & refl & refl & refl & refl & refl & refl & refl & refl & tt

@@ -1,7 +1,7 @@
 // Why a call is turned down, if it is: the reasons in order. Nothing is written.
 ghost use Rattle.std.specs.Prelude.{◌≡◌, [], ◌∷◌, ◌++◌, ◌+◌, ◌<◌, ◌≤◌, length};
 ghost use Rattle.field.specs.Reasons.{answer_of, bad_element};
-ghost use Rattle.opening.specs.Reasons.{opening_due, list_reasons, lentListReasons, openingReasons};
+ghost use Rattle.opening.specs.Reasons.{opening_due, list_reasons, lent_list_reasons, opening_reasons};
 
 use field::Answer;
 
@@ -52,7 +52,7 @@ fn decide_lent(
     challenges: &[u32],
     scratch: &[u32],
 ) -> Answer
-    ensures { result ≡ answer_of (lentListReasons p n prepared.now transcript.now list.now evaluations.now opening.now challenges.now scratch.now) }
+    ensures { result ≡ answer_of (lent_list_reasons p n prepared.now transcript.now list.now evaluations.now opening.now challenges.now scratch.now) }
 {
     let long = [
         prepared.len(),
@@ -104,7 +104,7 @@ pub fn decide(
     challenges: &[u32],
     scratch: &[u32],
 ) -> Answer
-    ensures { result ≡ answer_of (openingReasons p n prepared.now transcript.now list.now evaluations.now opening.now challenges.now scratch.now checks) }
+    ensures { result ≡ answer_of (opening_reasons p n prepared.now transcript.now list.now evaluations.now opening.now challenges.now scratch.now checks) }
 {
     let answer = decide_lent(
         p,

@@ -6,7 +6,7 @@
 
 ghost use Rattle.std.specs.Prelude.{◌≡◌, length, get_or, replicate};
 ghost use Rattle.circuit.specs.Buffers.{work_length, blinded_by};
-ghost use Rattle.opening.specs.Opening.{evaluationsOf, openingOf};
+ghost use Rattle.opening.specs.Opening.{evaluations_of, opening_of};
 ghost use Rattle.opening.specs.Promises.{judged_opening, Opens, ChecksOpening};
 ghost use Rattle.opening.specs.Buffers.{Checked};
 
@@ -32,8 +32,8 @@ fn work<'a>(
 )
     requires checked { Checked p n prepared.now transcript.now list.now evaluations.old opening.old challenges.now }
     requires scratch_len { length scratch.old ≡ work_length (blinded_by n transcript.now) n }
-    ensures evaluations_after { evaluations.new ≡ evaluationsOf (blinded_by n transcript.now) p n prepared.now transcript.now list.now (get_or challenges.now 0 0) }
-    ensures opening_after { opening.new ≡ openingOf (blinded_by n transcript.now) p n prepared.now transcript.now list.now (get_or challenges.now 0 0) (get_or challenges.now 1 0) }
+    ensures evaluations_after { evaluations.new ≡ evaluations_of (blinded_by n transcript.now) p n prepared.now transcript.now list.now (get_or challenges.now 0 0) }
+    ensures opening_after { opening.new ≡ opening_of (blinded_by n transcript.now) p n prepared.now transcript.now list.now (get_or challenges.now 0 0) (get_or challenges.now 1 0) }
     ensures scratch_after { scratch.new ≡ replicate (work_length (blinded_by n transcript.now) n) 0 }
 {
     mixing::evaluate(p, n, prepared, transcript, list, challenges[0], evaluations);

@@ -21,7 +21,7 @@ use Rattle.algebra.specs.Lists.{tab, All}
 use Rattle.field.specs.Fields.{tag}
 use Rattle.circuit.specs.Circuit.{Constraints, lent_constraints, lent_witness, lent_public, permutation, gate}
 use Rattle.circuit.specs.Reasons.{unbound_row}
-use Rattle.protocol.specs.Protocol.{row_n, row_d, z_rows, quotient, prepared, wires_of, z_of, proved, RowVerdict, pass, fails, gateIdentity, startIdentity, stepIdentity, row_verdict, PointVerdict, accept, reject, point_f, point_verdict, broken_gate, broken_copy, zero_factor}
+use Rattle.protocol.specs.Protocol.{row_n, row_d, z_rows, quotient, prepared, wires_of, z_of, proved, RowVerdict, pass, fails, gate_identity, startIdentity, stepIdentity, row_verdict, PointVerdict, accept, reject, point_f, point_verdict, broken_gate, broken_copy, zero_factor}
 use Rattle.protocol.specs.Worked.{numbers, perhaps, rows, at_point, Case}
 
 -- THE DEFINITIONS AT A SHEET
@@ -238,7 +238,7 @@ table =
     ∷ record { what = "17: point check, zeta 2, last number changed"; is = at_point (point_check seventeen seventeen_prepared (12 ∷ 14 ∷ 8 ∷ 3 ∷ 3 ∷ 3 ∷ 10 ∷ 4 ∷ 13 ∷ 16 ∷ 16 ∷ 1 ∷ 0 ∷ 16 ∷ 7 ∷ 12 ∷ 15 ∷ 5 ∷ 2 ∷ 5 ∷ 9 ∷ 10 ∷ 8 ∷ 11 ∷ 11 ∷ []) 2); should = at_point reject }
     ∷ record { what = "17, refused by 9: gates"; is = numbers (gates broken_row); should = numbers (0 ∷ 0 ∷ 0 ∷ 4 ∷ []) }
     ∷ record { what = "17, refused by 9: at row 3"; is = numbers (broken broken_row); should = numbers (2 ∷ 3 ∷ 11 ∷ 4 ∷ []) }
-    ∷ record { what = "17, refused by 9: row check"; is = rows (row_check broken_row (1 ∷ 0 ∷ 0 ∷ 0 ∷ [])); should = rows (fails gateIdentity 3) }
+    ∷ record { what = "17, refused by 9: row check"; is = rows (row_check broken_row (1 ∷ 0 ∷ 0 ∷ 0 ∷ [])); should = rows (fails gate_identity 3) }
     ∷ record { what = "17, refused by 10: at position 3"; is = numbers (broken broken_position); should = numbers (1 ∷ 2 ∷ 3 ∷ 2 ∷ []) }
     ∷ record { what = "17, refused by 11: at row 2"; is = numbers (broken zero_row); should = numbers (2 ∷ 4 ∷ 12 ∷ 2 ∷ []) }
     ∷ record { what = "97: gates with public inputs"; is = numbers (gates ninety_seven); should = numbers (0 ∷ 0 ∷ 0 ∷ 0 ∷ []) }

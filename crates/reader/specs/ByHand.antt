@@ -17,9 +17,9 @@ use Rattle.transform.specs.Passes.{strided, odd_word, passed}
 use Rattle.circuit.specs.Buffers.{wire_part, z_part, t_part}
 use Rattle.circuit.specs.Circuit.{Constraints, lent_constraints, lent_public, lent_witness, witness_place, lent_by, laid_by, by_rows, laid_witness, permutation, gate}
 use Rattle.circuit.specs.Worked.{public_selectors, labels}
-use Rattle.protocol.specs.Protocol.{wired_tag, running_z, row_n, row_d, poly_n, poly_d, poly_l, gate_part, step_part, start_part, poly_f, quotient, prepared_poly, prepared, wire_blinder, z_blinder, blinded, wires_of, z_of, proved, pass, fails, gateIdentity, startIdentity, stepIdentity, rows_from, row_verdict, accept, point_verdict, broken_copy, zero_factor, tagged, lost_gammas}
+use Rattle.protocol.specs.Protocol.{wired_tag, running_z, row_n, row_d, poly_n, poly_d, poly_l, gate_part, step_part, start_part, poly_f, quotient, prepared_poly, prepared, wire_blinder, z_blinder, blinded, wires_of, z_of, proved, pass, fails, gate_identity, startIdentity, stepIdentity, rows_from, row_verdict, accept, point_verdict, broken_copy, zero_factor, tagged, lost_gammas}
 use Rattle.protocol.specs.Worked.{circuit, publics, witness, last_is11, row_is5-7-12, z_worked, nine, z_blinded, t_blinded, Case, Value, number, inverted, numbers, perhaps, rows, at_point, ◌&◌}
-use Rattle.opening.specs.Opening.{polynomial_of, less, named, evaluationsOf, mixtureOf}
+use Rattle.opening.specs.Opening.{polynomial_of, less, named, evaluations_of, mixture_of}
 use Rattle.opening.specs.Worked as opened
 
 abbrev pre : ℕ → List ℕ
@@ -61,7 +61,7 @@ shifted i =
     less 17 f (eval f 2)
 
 abbrev mixture : List ℕ
-mixture = mixtureOf 0 17 2 opened.prepared opened.transcript opened.five (evaluationsOf 0 17 2 opened.prepared opened.transcript opened.five 2) 3
+mixture = mixture_of 0 17 2 opened.prepared opened.transcript opened.five (evaluations_of 0 17 2 opened.prepared opened.transcript opened.five 2) 3
 
 -- the passes on 1 + 2X + 4X² + 8X³ over 17 with four rows: the coefficients, after the first pass, after the second
 abbrev points : List ℕ
@@ -156,7 +156,7 @@ table =
     ∷ record { what = "last number 11: D"; is = numbers (tab (row_d 17 2 circuit last_is11 1 1) 2); should = numbers (15 ∷ 5 ∷ []) }
     ∷ record { what = "last number 11: steps, left sides"; is = numbers (tab (left last_is11 (1 ∷ 14 ∷ [])) 2); should = numbers (6 ∷ 5 ∷ []) }
     ∷ record { what = "last number 11: steps, right sides"; is = numbers (tab (right last_is11 (1 ∷ 14 ∷ [])) 2); should = numbers (6 ∷ 5 ∷ []) }
-    ∷ record { what = "last number 11: the verdict"; is = checked last_is11 (1 ∷ 14 ∷ []); should = rows (fails gateIdentity 1) }
+    ∷ record { what = "last number 11: the verdict"; is = checked last_is11 (1 ∷ 14 ∷ []); should = rows (fails gate_identity 1) }
     ∷ record { what = "z = 2, 11: steps, left sides"; is = numbers (tab (left witness (2 ∷ 11 ∷ [])) 2); should = numbers (12 ∷ 2 ∷ []) }
     ∷ record { what = "z = 2, 11: steps, right sides"; is = numbers (tab (right witness (2 ∷ 11 ∷ [])) 2); should = numbers (12 ∷ 2 ∷ []) }
     ∷ record { what = "z = 2, 11: the verdict"; is = checked witness (2 ∷ 11 ∷ []); should = rows (fails startIdentity 0) }
@@ -252,5 +252,5 @@ table =
     ∷ []
 
 pub by_hand : All (λ r. r.is ≡ r.should) table
-unfolding tab gathered occurs different pow_f first inverse reduced quotient_vanishing remainder_vanishing generator root point multiplier tag evaluation interpolation strided passed lent_by laid_by by_rows permutation row_n row_d running_z poly_n poly_d poly_l gate_part step_part start_part poly_f quotient laid prepared blinded rows_from point_verdict gate broken_copy zero_factor tagged lost_gammas polynomial_of evaluationsOf mixtureOf
+unfolding tab gathered occurs different pow_f first inverse reduced quotient_vanishing remainder_vanishing generator root point multiplier tag evaluation interpolation strided passed lent_by laid_by by_rows permutation row_n row_d running_z poly_n poly_d poly_l gate_part step_part start_part poly_f quotient laid prepared blinded rows_from point_verdict gate broken_copy zero_factor tagged lost_gammas polynomial_of evaluations_of mixture_of
 by_hand = refl & refl & refl & refl & refl & refl & refl & refl & refl & refl & refl & refl & refl & refl & refl & refl & refl & refl & refl & refl & refl & refl & refl & refl & refl & refl & refl & refl & refl & refl & refl & refl & refl & refl & refl & refl & refl & refl & refl & refl & refl & refl & refl & refl & refl & refl & refl & refl & refl & refl & refl & refl & refl & refl & refl & refl & refl & refl & refl & refl & refl & refl & refl & refl & refl & refl & refl & refl & refl & refl & refl & refl & refl & refl & refl & refl & refl & refl & refl & refl & refl & refl & refl & refl & refl & refl & refl & refl & refl & refl & refl & refl & refl & refl & refl & refl & refl & refl & refl & refl & refl & refl & refl & refl & refl & refl & refl & refl & refl & refl & refl & refl & refl & refl & refl & refl & refl & refl & refl & refl & tt

@@ -11,7 +11,7 @@ use Rattle.std.specs.Prelude.{◌≡◌, cond, List, ℕ, get_or}
 use Rattle.field.specs.Reasons.{answer_of, is_accepted}
 use Rattle.circuit.specs.Circuit.{Layout, lent_constraints, lent_public, lent_by, by_rows}
 use Rattle.circuit.specs.Reasons.{rows_reasons}
-use Rattle.protocol.specs.Protocol.{gateIdentity, startIdentity, stepIdentity, RowVerdict, pass, fails, row_verdict}
+use Rattle.protocol.specs.Protocol.{gate_identity, startIdentity, stepIdentity, RowVerdict, pass, fails, row_verdict}
 use Rattle.protocol.specs.Protocol as protocol
 use Rattle.rowcheck.specs.declared.Identity.{Identity}
 use Rattle.rowcheck.specs.declared.Identity.TheVariants.{Gate, Start, Step}
@@ -20,7 +20,7 @@ use Rattle.rowcheck.specs.declared.Verdict.TheVariants.{None, Pass, Fails}
 use Rattle.rowcheck.specs.declared.RowAnswer.{RowAnswer}
 
 abbrev pub identity_of : protocol.Identity → Identity
-identity_of gateIdentity = Gate
+identity_of gate_identity = Gate
 identity_of startIdentity = Start
 identity_of stepIdentity = Step
 

@@ -3,7 +3,7 @@
 --
 -- SheetBack            what is read off the text s
 -- sheet_back           THE THEOREM, for the text of the numbers
--- sheetLine            the numbers of line i of that text
+-- sheet_line            the numbers of line i of that text
 -- Admitted             what the reasons ask of the numbers: p and n are admissible on a sheet, selectors and labels are a circuit, elements are below p
 -- sheet_taken          a sheet that reads so, of at most 65,536 bytes, is accepted
 --
@@ -57,42 +57,42 @@ length_pick true x y k m p q = p
 length_pick false x y k m p q = q
 
 module _ (p n l : ℕ) (selectors labels witness publics challenges : List ℕ) where
-  unfoldable pub sheetLine : ℕ → List ℕ
-  sheetLine i =
+  unfoldable pub sheet_line : ℕ → List ℕ
+  sheet_line i =
       cond (eqb i 0) (p ∷ n ∷ l ∷ [])
       (cond (leb i n) (circuit_line n selectors labels (i - 1))
       (cond (leb i (n + n)) (witness_line n witness (i - (n + 1)))
       (cond (leb i (n + n + l)) (public_line publics (i - (n + n + 1))) challenges)))
 
-  line_first : sheetLine 0 ≡ p ∷ n ∷ l ∷ []
-  unfolding sheetLine
+  line_first : sheet_line 0 ≡ p ∷ n ∷ l ∷ []
+  unfolding sheet_line
   line_first = refl
 
-  line_circuit : (i row : ℕ) → i ≡ 1 + row → row < n → sheetLine i ≡ circuit_line n selectors labels row
-  unfolding sheetLine
+  line_circuit : (i row : ℕ) → i ≡ 1 + row → row < n → sheet_line i ≡ circuit_line n selectors labels row
+  unfolding sheet_line
   line_circuit i row e h =
       let q : i - 1 ≡ row = omega arith in
       rw (ne_eqb i 0 (λ u. omega arith), le-leb i n (omega arith), q)
 
-  line_witness : (i row : ℕ) → i ≡ n + 1 + row → row < n → sheetLine i ≡ witness_line n witness row
-  unfolding sheetLine
+  line_witness : (i row : ℕ) → i ≡ n + 1 + row → row < n → sheet_line i ≡ witness_line n witness row
+  unfolding sheet_line
   line_witness i row e h =
       let q : i - (n + 1) ≡ row = omega arith in
       rw (ne_eqb i 0 (λ u. omega arith), lt-leb i n (omega arith), le-leb i (n + n) (omega arith), q)
 
-  line_public : (i row : ℕ) → i ≡ n + n + 1 + row → row < l → sheetLine i ≡ public_line publics row
-  unfolding sheetLine
+  line_public : (i row : ℕ) → i ≡ n + n + 1 + row → row < l → sheet_line i ≡ public_line publics row
+  unfolding sheet_line
   line_public i row e h =
       let q : i - (n + n + 1) ≡ row = omega arith in
       rw (ne_eqb i 0 (λ u. omega arith), lt-leb i n (omega arith), lt-leb i (n + n) (omega arith), le-leb i (n + n + l) (omega arith), q)
 
-  line_last : (i : ℕ) → i ≡ n + n + l + 1 → sheetLine i ≡ challenges
-  unfolding sheetLine
+  line_last : (i : ℕ) → i ≡ n + n + l + 1 → sheet_line i ≡ challenges
+  unfolding sheet_line
   line_last i e =
       rw (ne_eqb i 0 (λ u. omega arith), lt-leb i n (omega arith), lt-leb i (n + n) (omega arith), lt-leb i (n + n + l) (omega arith))
 
   -- the text is the lines, laid end to end
-  text_lines : sheet_text p n l selectors labels witness publics challenges ≡ laid (λ i. line_of (sheetLine i)) (plain_lines n l)
+  text_lines : sheet_text p n l selectors labels witness publics challenges ≡ laid (λ i. line_of (sheet_line i)) (plain_lines n l)
   text_lines =
       let q : plain_lines n l ≡ 1 + (n + (n + (l + 1))) = omega arith in
       sym (ap (laid f) q
@@ -107,11 +107,11 @@ module _ (p n l : ℕ) (selectors labels witness publics challenges : List ℕ) 
       (laid_one (λ i. f (1 + (n + (n + (l + i))))) ∙ ap line_of (line_last (1 + (n + (n + (l + 0)))) (omega arith)))))))
     where
       f : ℕ → List ℕ
-      f i = line_of (sheetLine i)
+      f i = line_of (sheet_line i)
 
   module _ (right : Right p n l selectors labels witness publics challenges) where
-    line_small : (i : ℕ) → Small (sheetLine i)
-    unfolding sheetLine lent_by by_rows
+    line_small : (i : ℕ) → Small (sheet_line i)
+    unfolding sheet_line lent_by by_rows
     line_small i =
         picked Small (eqb i 0) right.first_small
         (picked Small (leb i n)
@@ -122,8 +122,8 @@ module _ (p n l : ℕ) (selectors labels witness publics challenges : List ℕ) 
         (all_tab (λ (x : ℕ). x < 4294967296) _ 3 (λ c h. word_small witness (witness_place n (position n c (i - (n + 1)))) right.witness_small))
         (picked Small (leb i (n + n + l)) (word_small publics (i - (n + n + 1)) right.publics_small, tt) right.challenges_small)))
 
-    line_long : (i : ℕ) → i < plain_lines n l → length (sheetLine i) ≡ fields_due n l i
-    unfolding sheetLine fields_due
+    line_long : (i : ℕ) → i < plain_lines n l → length (sheet_line i) ≡ fields_due n l i
+    unfolding sheet_line fields_due
     line_long i h =
         rw (le-leb i (n + n + l + 1) (omega arith))
         (length_pick (eqb i 0) _ _ _ _ refl
@@ -133,11 +133,11 @@ module _ (p n l : ℕ) (selectors labels witness publics challenges : List ℕ) 
 
     -- number j of line i, in the text as lines
     abbrev lines : List ℕ
-    lines = laid (λ i. line_of (sheetLine i)) (plain_lines n l)
+    lines = laid (λ i. line_of (sheet_line i)) (plain_lines n l)
 
-    number : (i j : ℕ) (vs : List ℕ) → i < plain_lines n l → sheetLine i ≡ vs → j < length vs → number_of lines n l i j ≡ get_or vs j 0
+    number : (i j : ℕ) (vs : List ℕ) → i < plain_lines n l → sheet_line i ≡ vs → j < length vs → number_of lines n l i j ≡ get_or vs j 0
     number i j vs h e g =
-        reads n l (plain_lines n l) sheetLine line_small line_long i j h (omega (arith, line_long i h, ap length e))
+        reads n l (plain_lines n l) sheet_line line_small line_long i j h (omega (arith, line_long i h, ap length e))
         ∙ ap (λ (xs : List ℕ). get_or xs j 0) e
 
     back_column : (xs : List ℕ) (k : ℕ) → column n xs (k % n) (k / n) ≡ get_or xs k 0
@@ -201,7 +201,7 @@ module _ (p n l : ℕ) (selectors labels witness publics challenges : List ℕ) 
 
     first_line : is_line_at lines 0 3 ≡ true
     unfolding line_at fields_due
-    first_line = in_form n l (plain_lines n l) sheetLine line_small line_long 0 (omega arith)
+    first_line = in_form n l (plain_lines n l) sheet_line line_small line_long 0 (omega arith)
 
     first_word : (j : ℕ) → j < 3 → number_of lines n l 0 j ≡ get_or (p ∷ n ∷ l ∷ []) j 0
     first_word j h = number 0 j (p ∷ n ∷ l ∷ []) (omega arith) line_first (omega arith)
@@ -214,9 +214,9 @@ module _ (p n l : ℕ) (selectors labels witness publics challenges : List ℕ) 
           p_is = first_word 0 (omega arith);
           n_is = first_word 1 (omega arith);
           l_is = first_word 2 (omega arith);
-          none_blinded = no_blinders n l (plain_lines n l) sheetLine line_small line_long refl;
-          none_bad = no_bad n l (plain_lines n l) sheetLine line_small line_long refl;
-          none_extra = no_extra n l (plain_lines n l) sheetLine line_small line_long refl;
+          none_blinded = no_blinders n l (plain_lines n l) sheet_line line_small line_long refl;
+          none_bad = no_bad n l (plain_lines n l) sheet_line line_small line_long refl;
+          none_extra = no_extra n l (plain_lines n l) sheet_line line_small line_long refl;
           selectors_are = list_back (on_selectors lines n l) selectors (selectors_length n) right.selectors_long selectors_back;
           labels_are = list_back (on_labels lines n l) labels (labels_length n) right.labels_long labels_back;
           witness_is = list_back (on_witness lines n l) witness (witness_length n) right.witness_long witness_back;

@@ -39,13 +39,13 @@ module _ (p : ℕ) where
   abbrev Below : List ℕ → Type 0
   Below xs = All (λ (x : ℕ). x < p) xs
 
-  abbrev tooGreat : List ℕ → Bool
-  tooGreat xs = ltb (first_above p xs) (length xs)
+  abbrev too_great : List ℕ → Bool
+  too_great xs = ltb (first_above p xs) (length xs)
 
-  same_test : (xs ys : List ℕ) → (Below xs → Below ys) → (Below ys → Below xs) → tooGreat xs ≡ tooGreat ys
-  same_test xs ys to from = go (tooGreat xs) (tooGreat ys) refl refl
+  same_test : (xs ys : List ℕ) → (Below xs → Below ys) → (Below ys → Below xs) → too_great xs ≡ too_great ys
+  same_test xs ys to from = go (too_great xs) (too_great ys) refl refl
     where
-      go : (b c : Bool) → tooGreat xs ≡ b → tooGreat ys ≡ c → b ≡ c
+      go : (b c : Bool) → too_great xs ≡ b → too_great ys ≡ c → b ≡ c
       go true true e f = refl
       go true false e f = absurd (true≢false (sym e ∙ elements_none p xs (from (elements_of p ys f))))
       go false true e f = absurd (true≢false (sym f ∙ elements_none p ys (to (elements_of p xs e))))
@@ -55,7 +55,7 @@ module _ (p : ℕ) where
       → AsBefore (answer_of (bad_element p ys ∷ rest)) (answer_of (bad_element p xs ∷ rest))
   as_elements xs ys to from rest =
       rw (same_test xs ys to from)
-      (either (tooGreat ys) _ (answer_of rest) _ (answer_of rest) (record { number = refl; detail = λ h. absurd (h refl) }) (record { number = refl; detail = λ h. refl }))
+      (either (too_great ys) _ (answer_of rest) _ (answer_of rest) (record { number = refl; detail = λ h. absurd (h refl) }) (record { number = refl; detail = λ h. refl }))
 
   -- `front` and `back` are the elements before and behind the witness
   pub as_transferred : (n : ℕ) (columns : List ℕ) → length columns ≡ witness_length n → (front back : List ℕ) (before rest : List Reason)

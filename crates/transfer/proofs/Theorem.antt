@@ -198,8 +198,8 @@ module _ (one two joined : List ℕ) (r' : Joined) (joined' : List ℕ) (r : Joi
   abbrev lengths : List Reason
   lengths = bad_lengths (length one ∷ length two ∷ length joined ∷ []) (join_due (length one) (length two)) ∷ []
 
-  abbrev ofPair : List Reason
-  ofPair = pair_reasons (sheet_p one) (sheet_n one) (sheet_p two) (sheet_n two)
+  abbrev of_pair : List Reason
+  of_pair = pair_reasons (sheet_p one) (sheet_n one) (sheet_p two) (sheet_n two)
 
   -- the first sheet's numbers by columns, and then the second's too
   answers : AsBefore r'.answer r.answer
@@ -208,10 +208,10 @@ module _ (one two joined : List ℕ) (r' : Joined) (joined' : List ℕ) (r : Joi
       (as_then
       (numbers_as_before one (sheet_p one) (sheet_n one) (sheet_l one)
       (current_only (sheet_p one) (first_reasons one ++ (line_reasons one (sheet_n one) (sheet_l one) ++ lengths)))
-      (new_reasons two [] ++ ofPair))
+      (new_reasons two [] ++ of_pair))
       (numbers_as_before two (sheet_p two) (sheet_n two) (sheet_l two)
       (new_reasons_with by_columns one lengths ++ current_only (sheet_p two) (first_reasons two ++ line_reasons two (sheet_n two) (sheet_l two)))
-      ofPair))
+      of_pair))
 
   texts : is_accepted r'.answer ≡ true → joined_text one two ≡ joined_text_with by_columns one two
   texts e =

@@ -7,7 +7,7 @@ use Rattle.algebra.specs.Tables.{length-tab, get_or-tab, tab_ext, tab-get_or, al
 use Rattle.circuit.specs.Circuit.{laid_by, by_rows, lent_witness}
 use Rattle.circuit.specs.Buffers.{witness_length}
 use Rattle.circuit.specs.Witness.{lent_laid, laid_lent, laid_ext, laid_elements, lent_below}
-use Rattle.transfer.specs.Transfer.{to_rows, to_columns}
+use Rattle.transfer.specs.Transfer.{to_rows}
 use Rattle.transfer.specs.ThereAndBack.{ThereAndBack}
 
 pub rows_read : (n : ℕ) (columns : List ℕ) (k : ℕ) → k < 3 * n → lent_witness n (to_rows n columns) k ≡ get_or columns k 0

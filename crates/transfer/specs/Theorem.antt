@@ -18,39 +18,19 @@
 -- A call's answer is any that keeps the call's promise: the former one of Columns, and that of today.
 -- The theorems stand in proofs/Theorem.
 -- Assumes nothing.
-use Rattle.std.specs.Prelude.{◌≡◌, refl, ◌⊎◌, Bool, cond, length, get_or}
-use Rattle.std.proofs.Common.{sym, ap, ap₂, ◌∙◌, inl, inr, arith, eqb-true}
-use Rattle.std.proofs.Math.Bool.{true, false}
-use mathlib.Core.List.{List, [], ◌∷◌, ◌++◌}
-use Rattle.std.proofs.Math.Option.{some}
-use Prim.Native.Nat.{ℕ, ◌-◌, ◌≤◌}
-use Rattle.std.proofs.Math.ListN.{take, drop, replicate}
-use Rattle.std.proofs.Math.Seq.{take_at, drop_at}
-use Rattle.algebra.specs.Lists.{tab}
-use Rattle.algebra.specs.Tables.{length-tab}
+use Rattle.std.specs.Prelude.{◌≡◌, ◌⊎◌}
+use mathlib.Core.List.{List, ◌++◌}
+use Prim.Native.Nat.{ℕ}
+use Rattle.std.proofs.Math.ListN.{take, drop}
 use Rattle.field.specs.declared.Answer.{Answer}
-use Rattle.field.specs.Reasons.{Reason, is_accepted, bad_lengths, lent_reasons, current_only}
-use Rattle.circuit.specs.Circuit.{Constraints, lent_constraints, lent_public, lent_by, laid_by, lent_witness}
-use Rattle.circuit.specs.Buffers.{witness_length, work_length}
-use Rattle.circuit.specs.Reasons.{circuit_reasons, rows_due}
-use Rattle.protocol.proofs.SameValues.{verdict_ext, proved_ext, lost_ext}
+use Rattle.circuit.specs.Buffers.{witness_length}
 use Rattle.rowcheck.specs.declared.RowAnswer.{RowAnswer}
-use Rattle.rowcheck.specs.declared.Verdict.TheVariants.{None}
-use Rattle.rowcheck.specs.Promises.{verdict_of, lent_z, ChecksRows}
-use Rattle.prover.specs.Promises.{Proves}
 use Rattle.losses.specs.declared.Counted.{Counted}
-use Rattle.losses.specs.Losses.{lost_due, LosesGammas}
 use Rattle.sheet.specs.declared.SheetAnswer.{SheetAnswer}
-use Rattle.sheet.specs.Sheet.{sheet_rows, sheet_p, sheet_n, sheet_l, on_witness_with, on_witness, padded, first_reasons, line_reasons, sheet_lengths, new_reasons_with, new_reasons}
-use Rattle.sheet.specs.Promises.{Reads}
 use Rattle.joining.specs.declared.Joined.{Joined}
-use Rattle.joining.specs.Joining.{joined_text_with, joined_text, joined_length, join_due, pair_reasons, Joins}
-use Rattle.joining.specs.Deciding.{joinable_of}
 use Rattle.archive.specs.declared.Deposited.{Deposited}
-use Rattle.archive.specs.Printed.{text_length}
-use Rattle.archive.specs.Deposit.{deposit_text_with, deposit_text, Deposits}
 use Rattle.transfer.specs.Transfer.{to_rows}
-use Rattle.transfer.specs.Columns.{by_columns, ChecksRowsByColumns, ProvesByColumns, LosesGammasByColumns, columns_read, ReadsByColumns, DepositsByColumns, JoinsByColumns, AsBefore, RefusesElement}
+use Rattle.transfer.specs.Columns.{AsBefore, RefusesElement}
 
 -- THE STATEMENTS
 

@@ -8,13 +8,7 @@
 --
 -- The theorems stand in proofs/ThereAndBack.
 -- Assumes nothing.
-use Rattle.std.specs.Prelude.{◌≡◌, List, ℕ, ◌*◌, ◌<◌, length, get_or}
-use Rattle.std.proofs.Common.{sym, ap, ◌∙◌, arith}
-use Rattle.algebra.specs.Lists.{tab, All}
-use Rattle.algebra.specs.Tables.{length-tab, get_or-tab, tab_ext, tab-get_or, all_tab, all_get_d}
-use Rattle.circuit.specs.Circuit.{laid_by, by_rows, lent_witness}
-use Rattle.circuit.specs.Buffers.{witness_length}
-use Rattle.circuit.specs.Witness.{lent_laid, laid_lent, laid_ext, laid_elements, lent_below}
+use Rattle.std.specs.Prelude.{◌≡◌, List, ℕ}
 use Rattle.transfer.specs.Transfer.{to_rows, to_columns}
 
 pub record ThereAndBack (n : ℕ) (xs : List ℕ) : Type 0 where

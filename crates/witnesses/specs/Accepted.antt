@@ -76,8 +76,8 @@ module _ (e p n l : ℕ) (selectors labels witness publics transcript challenges
   abbrev buffers : List Reason
   buffers = prove_buffer_reasons e p n l selectors labels witness publics transcript challenges blinders scratch
 
-  abbrev ofWitness : List Reason
-  ofWitness =
+  abbrev of_witness : List Reason
+  of_witness =
       witness_reasons p n (lent_constraints n selectors labels) (lent_public publics) (lent_witness n witness) (get_or challenges 0 0) (get_or challenges 1 0)
 
   pub buffer_numbers : All (λ r. r.number ≢ 0) buffers
@@ -93,15 +93,15 @@ module _ (e p n l : ℕ) (selectors labels witness publics transcript challenges
       → Accepted e p n l selectors labels witness publics transcript challenges blinders scratch
   accepted_of small none is =
       let P : ℕ → Type 0 = λ a. a < p in
-      let current = current_known p (buffers ++ ofWitness) refl is in
-      let both = both_none buffers ofWitness buffer_numbers (ap (λ (a : Answer). a.number) (sym (current_answer p current (buffers ++ ofWitness))) ∙ is) in
+      let current = current_known p (buffers ++ of_witness) refl is in
+      let both = both_none buffers of_witness buffer_numbers (ap (λ (a : Answer). a.number) (sym (current_answer p current (buffers ++ of_witness))) ∙ is) in
       let known = buffers_of both.0 in
       let lent = known.0 in
       let later = all_right P selectors _ known.1.0 in
       let last = all_right P witness _ later in
       let drawn = all_right P publics _ last in
       let behind = behind_of e (length blinders) (length scratch) (work_length e n) small (λ h. ap (λ (b : List ℕ). length b) (none h)) (cc lent.lengths) in
-      let broken = none_applies ofWitness (omega arith, (omega arith, (omega arith, tt))) both.1 in
+      let broken = none_applies of_witness (omega arith, (omega arith, (omega arith, tt))) both.1 in
       record {
         honest = record {
           admissible = lent.admissible;
@@ -143,17 +143,17 @@ module _ (e p n l : ℕ) (selectors labels witness publics transcript challenges
         → (answer_of (prove_reasons e p n l selectors labels witness publics transcript challenges blinders scratch)).number ≡ 11
     refused_by_11 z =
         let whole = unbroken p n _ _ _ H.satisfies in
-        let eleven : (answer_of ofWitness).number ≡ 11 = rw (at_none whole.0, at_none whole.1, lt-ltb _ n z) in
-        let later = refused_later buffers ofWitness buffer_numbers _ _ refl (ap (λ (a : Answer). a.number) buffers_taken) refl in
-        ap (λ (a : Answer). a.number) (current_answer p H.current (buffers ++ ofWitness) ∙ sym later) ∙ eleven
+        let eleven : (answer_of of_witness).number ≡ 11 = rw (at_none whole.0, at_none whole.1, lt-ltb _ n z) in
+        let later = refused_later buffers of_witness buffer_numbers _ _ refl (ap (λ (a : Answer). a.number) buffers_taken) refl in
+        ap (λ (a : Answer). a.number) (current_answer p H.current (buffers ++ of_witness) ∙ sym later) ∙ eleven
 
   pub prove_taken : e ≤ 1 → Accepted e p n l selectors labels witness publics transcript challenges blinders scratch
       → answer_of (prove_reasons e p n l selectors labels witness publics transcript challenges blinders scratch) ≡ record { number = 0; detail = 0 }
   prove_taken small A =
       let whole = unbroken p n _ _ _ A.honest.satisfies in
-      current_answer p A.honest.current (buffers ++ ofWitness)
-      ∙ both_taken buffers ofWitness buffer_numbers (buffers_taken small A.honest A.challenges_right)
-      (taken ofWitness (at_none whole.0, (at_none whole.1, (at_none A.no_zero, tt))))
+      current_answer p A.honest.current (buffers ++ of_witness)
+      ∙ both_taken buffers of_witness buffer_numbers (buffers_taken small A.honest A.challenges_right)
+      (taken of_witness (at_none whole.0, (at_none whole.1, (at_none A.no_zero, tt))))
 
 pub prove_retired : (e n l : ℕ) (selectors labels witness publics transcript challenges blinders scratch : List ℕ)
     → answer_of (prove_reasons e 97 n l selectors labels witness publics transcript challenges blinders scratch) ≡ record { number = 16; detail = 0 }

@@ -2,7 +2,6 @@
 use mathlib.Core.Path.{ap, sym, ◌∙◌}
 use borrow.Author.Tests.{eq-eqb, ne_eqb}
 use Rattle.circuit.proofs.Deciding.{Checked, checked}
-use borrow.Author.Rules.{rules}
 use Rattle.circuit.proofs.permutation.Goals as goal
 use Rattle.circuit.proofs.permutation.Goals.{Then-number-eq0}
 

@@ -3,7 +3,6 @@ use mathlib.Core.Path.{◌≡◌, refl, sym, ◌∙◌}
 use mathlib.Core.Bool.{true}
 use lib.ListN.{length}
 use borrow.Author.Tests.{not-true, not-false, eq-eqb, ne_eqb}
-use borrow.Author.Rules.{rules}
 use Rattle.circuit.specs.Buffers.{prepared_length, transcript_length}
 use Rattle.circuit.specs.Promises.{any_rows}
 use Rattle.circuit.specs.AnyRows.{any_rows_lem}

@@ -6,7 +6,6 @@ use Prim.Native.Nat.{ℕ, ◌≤◌}
 use native.Mathlib.Omega.{arith}
 use lib.ListN.{length}
 use lib.Seq.{length-take-le}
-use borrow.Author.Rules.{rules}
 use Rattle.algebra.specs.Ends.{rest_length, both_parts}
 use Rattle.circuit.specs.Circuit.{lent_constraints, lent_witness}
 use Rattle.laying.proofs.ZLaws.{wires_laid}

@@ -4,7 +4,6 @@ use Prim.Native.Nat.{ℕ, ◌≤◌, ◌<◌}
 use native.Mathlib.Omega.{arith}
 use lib.ListN.{length}
 use lib.Seq.{length-take-le}
-use borrow.Author.Rules.{rules}
 use Rattle.algebra.specs.Ends.{front_array}
 use Rattle.algebra.specs.Lists.{All}
 use Rattle.field.proofs.Domain.{domain}

@@ -1,10 +1,10 @@
 -- `laying::lay_wires` meets its contract: after so many turns so many wires are laid end to end. Assumes nothing.
 use mathlib.Core.Path.{◌≡◌, sym, ap, ◌∙◌}
-use Prim.Native.Nat.{◌+◌, ◌*◌, ◌-◌, ◌≤◌}
+use Prim.Native.Nat.{◌+◌, ◌-◌, ◌≤◌}
 use native.Mathlib.Nat.{suc-mul}
 use native.Mathlib.Numerals.{add-one}
 use native.Mathlib.Omega.{arith}
-use lib.ListN.{length, take}
+use lib.ListN.{length}
 use borrow.Rule.Slice.PartMut.{mid_of, same_len_mid, mid_len}
 use borrow.Author.Rules.{rules}
 use Rattle.algebra.specs.Ends.{run_room}

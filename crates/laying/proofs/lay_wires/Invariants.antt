@@ -1,19 +1,10 @@
 -- `laying::lay_wires` meets its contract: after so many turns so many wires are laid end to end. Assumes nothing.
-use mathlib.Core.Path.{◌≡◌, sym, ap, ◌∙◌}
-use Prim.Native.Nat.{◌+◌, ◌*◌, ◌-◌, ◌≤◌}
-use native.Mathlib.Nat.{suc-mul}
-use native.Mathlib.Numerals.{add-one}
-use native.Mathlib.Omega.{arith}
+use mathlib.Core.Path.{◌≡◌}
+use Prim.Native.Nat.{◌*◌, ◌-◌, ◌≤◌}
 use lib.ListN.{length, take}
-use borrow.Rule.Slice.PartMut.{mid_of, same_len_mid, mid_len}
-use borrow.Author.Rules.{rules}
-use Rattle.algebra.specs.Ends.{run_room}
 use Rattle.transform.specs.Parts.{laid}
-use Rattle.transform.specs.Points.{points_small}
-use Rattle.circuit.specs.Buffers.{wire_length}
 use Rattle.circuit.specs.Circuit.{lent_witness}
 use Rattle.protocol.specs.Protocol.{wires_of}
-use Rattle.laying.proofs.WireLaws.{none_laid, one_laid, all_laid}
 use Rattle.laying.proofs.lay_wires.Given as goal
 
 abbrev pub invariant-loop-column : goal.invariant-loop-column

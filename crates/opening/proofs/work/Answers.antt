@@ -7,7 +7,7 @@ use lib.ListN.{length, get_or, drop, replicate}
 use lib.Seq.{length-take-le, length_front}
 use Rattle.algebra.specs.Polynomial.{quotient_linear, reduced}
 use Rattle.circuit.specs.Buffers.{quotient_length, opening_length, blinded_by}
-use Rattle.opening.specs.Opening.{mixtureOf, openingOf}
+use Rattle.opening.specs.Opening.{mixture_of, opening_of}
 use Rattle.opening.proofs.work.Goals as goal
 use Rattle.opening.proofs.work.Goals.{After-quotient_length-long}
 
@@ -37,7 +37,7 @@ write_opening-requires c =
     }
 
 pub returns : goal.returns
-unfolding openingOf
+unfolding opening_of
 returns c =
     let a = c.args in
     let point = get_or a.challenges.now 0 0 in
@@ -46,6 +46,6 @@ returns c =
       evaluations_after = evaluated;
       opening_after =
           c.write_opening.ensures
-          ∙ ap (λ (s : List ℕ). reduced a.p (opening_length (blinded_by a.n a.transcript.now) a.n) (quotient_linear point (drop 1 (mixtureOf (blinded_by a.n a.transcript.now) a.p a.n a.prepared.now a.transcript.now a.list.now s m)))) evaluated;
+          ∙ ap (λ (s : List ℕ). reduced a.p (opening_length (blinded_by a.n a.transcript.now) a.n) (quotient_linear point (drop 1 (mixture_of (blinded_by a.n a.transcript.now) a.p a.n a.prepared.now a.transcript.now a.list.now s m)))) evaluated;
       scratch_after = c.clear.ensures ∙ ap (λ (k : ℕ). replicate k 0) (length_front c.args.scratch.now c.write_opening.new.room c.quotient_length-long.result c.write_opening.auto.room ∙ c.requires.scratch_len);
     }

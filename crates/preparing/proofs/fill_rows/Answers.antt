@@ -3,7 +3,6 @@ use mathlib.Core.Path.{sym, ◌∙◌}
 use native.Mathlib.Omega.{arith}
 use lib.ListN.{length}
 use lib.Seq.{length-take-le}
-use borrow.Author.Rules.{rules}
 use Rattle.algebra.specs.Ends.{rest_length, both_parts}
 use Rattle.circuit.specs.RightlyLent.{labels_of}
 use Rattle.preparing.proofs.fill_rows.Goals as goal

@@ -5,7 +5,6 @@ use native.Mathlib.Omega.{arith}
 use lib.ListN.{length, replicate}
 use lib.Seq.{length-take-le, length_front}
 use Rattle.circuit.specs.Buffers.{prepared_count}
-use borrow.Author.Rules.{rules}
 use Rattle.field.specs.Primes.{rows-power}
 use Rattle.transform.specs.Parts.{interpolated}
 use Rattle.preparing.proofs.RowLaws.{rows_elements, rows-prepared}

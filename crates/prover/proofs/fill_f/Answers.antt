@@ -5,7 +5,6 @@ use Prim.Native.Nat.{ℕ, ◌≤◌}
 use native.Mathlib.Omega.{arith}
 use lib.ListN.{length, get_or, take, drop}
 use lib.Seq.{take_at, length-take-le, length_front}
-use borrow.Author.Rules.{rules}
 use Rattle.algebra.specs.Ends.{front_fits, front_is}
 use Rattle.algebra.specs.Polynomial.{reduced}
 use Rattle.circuit.specs.Circuit.{lent_public}

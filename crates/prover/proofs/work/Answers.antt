@@ -2,7 +2,6 @@
 use mathlib.Core.Path.{ap, ◌∙◌}
 use Prim.Native.Nat.{ℕ}
 use lib.ListN.{replicate}
-use borrow.Author.Rules.{rules}
 use Rattle.field.proofs.Domain.{domain}
 use Rattle.prover.proofs.Fits.{transcript_of_lem}
 use Rattle.prover.proofs.work.Goals as goal

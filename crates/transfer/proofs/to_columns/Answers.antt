@@ -1,5 +1,4 @@
 -- `transfer::to_columns` meets its contract: where no reason applies, the numbers are laid in the other layout. Assumes nothing.
-use borrow.Author.Rules.{rules}
 use Rattle.transfer.specs.Transfer.{to_columns}
 use Rattle.transfer.proofs.Known.{known, made, kept}
 use Rattle.transfer.proofs.to_columns.Goals as goal

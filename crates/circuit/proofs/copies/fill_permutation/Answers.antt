@@ -1,6 +1,5 @@
 -- `circuit::copies::fill_permutation` meets its contract: the first pass leaves the slots as the second asks. Assumes nothing.
 use native.Mathlib.Omega.{arith}
-use borrow.Author.Rules.{rules}
 use Rattle.circuit.proofs.copies.fill_permutation.Goals as goal
 
 pub lowest-requires : goal.lowest-requires

@@ -10,14 +10,14 @@ use Rattle.circuit.proofs.PartLaws.{hands_none}
 use Rattle.circuit.proofs.parts.part.Goals as goal
 
 pub returns-in-11 : goal.returns-in-11
-returns-in-11 c = rw c.in-11.is c.z_part.ensures.hands
+returns-in-11 c = rw c.in-11.is (search rules)
 
 pub returns-in-12 : goal.returns-in-12
 returns-in-12 c =
     let a = c.args in
     let k : a.number ≡ t_number = c.in-12.is in
     let long : length a.transcript.now - t_start a.e a.n ≡ quotient_length a.e a.n = omega arith in
-    rw (k, ← long) c.t_part.ensures.hands
+    rw (k, ← long) (search rules)
 
 pub returns-in-0-to-7 : goal.returns-in-0-to-7
 returns-in-0-to-7 c = rw (lt-ltb c.args.number wire_number (omega arith)) c.prepared_part.ensures.hands

@@ -3,7 +3,6 @@ use mathlib.Core.Path.{refl}
 use native.Mathlib.Nat.{add-sub_cancel_left}
 use native.Mathlib.Omega.{arith}
 use Rattle.circuit.specs.Parts.{prepared_room, length-prepared}
-use borrow.Author.Rules.{rules}
 use Rattle.circuit.proofs.parts.prepared_part.Goals as goal
 
 pub overflow_add-end : goal.overflow_add-end

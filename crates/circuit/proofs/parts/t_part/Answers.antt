@@ -4,7 +4,6 @@ use Prim.Native.Nat.{◌-◌}
 use native.Mathlib.Omega.{arith}
 use lib.ListN.{length, length-drop}
 use lib.Seq.{take_all}
-use borrow.Author.Rules.{rules}
 use Rattle.circuit.specs.Buffers.{t_start, t_part}
 use Rattle.circuit.proofs.parts.t_part.Goals as goal
 

@@ -3,7 +3,6 @@ use mathlib.Core.Path.{refl}
 use native.Mathlib.Nat.{add-sub_cancel_left}
 use native.Mathlib.Omega.{arith}
 use Rattle.circuit.specs.Parts.{wire_room_lem, length-wire}
-use borrow.Author.Rules.{rules}
 use Rattle.circuit.proofs.parts.wire_part.Goals as goal
 
 pub overflow_add-end : goal.overflow_add-end

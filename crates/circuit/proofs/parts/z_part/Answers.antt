@@ -2,7 +2,6 @@
 use mathlib.Core.Path.{refl}
 use native.Mathlib.Nat.{add-sub_cancel_left}
 use Rattle.circuit.specs.Parts.{length-z}
-use borrow.Author.Rules.{rules}
 use Rattle.circuit.proofs.parts.z_part.Goals as goal
 
 pub returns-clause-hands : goal.returns-clause-hands

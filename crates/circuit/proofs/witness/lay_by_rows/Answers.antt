@@ -1,5 +1,5 @@
 -- The position that a turn reads is one of the 3n.
-use Rattle.std.proofs.Common.{ℕ, ◌≡◌, ◌*◌, ◌<◌, refl, ap, ◌∙◌, get_or, arith, rules}
+use Rattle.std.proofs.Common.{◌*◌, ◌<◌, refl, ap, ◌∙◌, get_or, arith, rules}
 use Rattle.std.proofs.Math.ListN.{length-set}
 use Rattle.algebra.specs.Lists.{tab}
 use Rattle.algebra.specs.Tables.{wrote_none, wrote_more, wrote_all}

@@ -1,11 +1,10 @@
 -- `losses::different::count_different` meets its contract: the buckets are filled, linked by the permutation of labels, and passed. Assumes nothing.
 use mathlib.Core.Path.{◌≡◌, sym, ◌∙◌, subst}
-use mathlib.Core.List.{List, ◌++◌}
-use Prim.Native.Nat.{ℕ, ◌≤◌}
+use mathlib.Core.List.{◌++◌}
+use Prim.Native.Nat.{◌≤◌}
 use native.Mathlib.Omega.{arith}
 use lib.ListN.{length, take, drop}
 use lib.Seq.{length-take-le}
-use borrow.Author.Rules.{rules}
 use Rattle.algebra.specs.Ends.{front_fits, front_is}
 use Rattle.circuit.specs.Ahead.{Labels}
 use Rattle.losses.specs.Buckets.{buckets_of, Linked}

@@ -4,7 +4,6 @@ use Prim.Native.Nat.{◌*◌, ◌≤◌}
 use native.Mathlib.Omega.{arith}
 use lib.ListN.{length, take}
 use lib.Seq.{length-take-le}
-use borrow.Author.Rules.{rules}
 use Rattle.algebra.specs.Ends.{front_fits, front_is}
 use Rattle.algebra.specs.Lists.{tab}
 use Rattle.field.specs.Fields.{tag}

@@ -20,15 +20,15 @@ use Rattle.sheet.proofs.numbers.decide_circuit.Statement.{statement}
 use Rattle.sheet.proofs.numbers.decide_circuit.Tie as tie
 
 -- the labels; the two parts; and that the first is decided
-abbrev labelsOf : tie.Start → List ℕ
-labelsOf s = tab (labels_in s.args.table.now s.args.n) (labels_length s.args.n)
+abbrev labels_of : tie.Start → List ℕ
+labels_of s = tab (labels_in s.args.table.now s.args.n) (labels_length s.args.n)
 
 abbrev first : tie.Start → List Reason
-first s = bad_label s.args.n (labelsOf s) ∷ []
+first s = bad_label s.args.n (labels_of s) ∷ []
 
 abbrev second : tie.Start → List Reason
 second s =
-    bad_public_row (lent_constraints s.args.n (tab (selectors_in s.args.table.now s.args.n) (selectors_length s.args.n)) (labelsOf s)) s.args.l ∷ []
+    bad_public_row (lent_constraints s.args.n (tab (selectors_in s.args.table.now s.args.n) (selectors_length s.args.n)) (labels_of s)) s.args.l ∷ []
 
 decided : (c : tie.After-decide_at-answer) → c.decide_at-answer.result ≡ answer_of (first c.before.before.before.before.before)
 decided c =
@@ -76,7 +76,7 @@ returns-2 c =
     let s = c.before.before.before.before.before.before.before.before.before in
     let t = s.args.table.now in
     let l = s.args.l in
-    let row = c.before.unbound_row-row.ensures ∙ ap (λ (start : ℕ). unbound_in t start line_words 1 l) c.before.before.table_place-start.ensures ∙ unbound-table s.args.n t l (labelsOf s) s.requires.publics in
+    let row = c.before.unbound_row-row.ensures ∙ ap (λ (start : ℕ). unbound_in t start line_words 1 l) c.before.before.table_place-start.ensures ∙ unbound-table s.args.n t l (labels_of s) s.requires.publics in
     refused_later (first s) (second s) (omega arith, tt) _ _ (decided c.before.before.before.before) c.before.before.before.if-number-ne0.false
     (c.decide_at.ensures ∙ ap (λ (at : ℕ). answer_of (reason_at 14 at l ∷ [])) row)
 
