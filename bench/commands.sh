@@ -4,7 +4,7 @@
 #     bench/commands.sh [TARGET]
 #
 # TARGET is a folder `target` with what was proved before, which is copied into the clone, so that it is not proved again. A command is a line of a
-# code block that begins with rt, cc, cargo or target/bin/; the gate itself, .ci/run, is not run. A command is taken apart at its &&, and fails where a
+# code block that begins with tools/build, cc, cargo or target/bin/; the gate itself, .ci/run, is not run. A command is taken apart at its &&, and fails where a
 # part of it does. The programs of target/bin/ have no exit status: one of them fails where it tells something on standard error, or prints nothing.
 # The exit status is 1 if a command fails, or a page shows none.
 set -euo pipefail
@@ -20,7 +20,7 @@ failed=0
 
 # The commands of a page, a line each.
 commands_of() {
-    grep -E '^ {4,}(rt |cc |cargo |target/bin/)' "$1" | sed 's/^ *//'
+    grep -E '^ {4,}(tools/build |cc |cargo |target/bin/)' "$1" | sed 's/^ *//'
 }
 
 # A part of a command. What it prints and tells is left in two files.

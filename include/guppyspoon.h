@@ -1,4 +1,4 @@
-/* The proved calls of Guppyspoon for C and C++, from target/staticlib/libexports.a, which `rt staticlib exports` writes (x86-64, Linux).
+/* The proved calls of Guppyspoon for C and C++, from target/staticlib/libexports.a, which `tools/build exports` writes (x86-64, Linux).
  *
  * Numbers are passed as themselves. A buffer is passed as a pointer to its first number and its length in numbers: bytes for a sheet and a
  * text, 32-bit words else. Every call

@@ -52,7 +52,7 @@ fn c_of_rust(parameter: &str) -> Vec<String> {
     vec![format!("{front}{name}")]
 }
 
-// Of crates/exports/src/lib.rt. C has no lifetimes.
+// Of crates/exports_c/src/lib.rt. C has no lifetimes.
 pub fn of_rattle(text: &str) -> Vec<Declaration> {
     all(&text.replace("<'a>", "").replace("&'a ", "&"), "fn", c_of_rattle)
 }

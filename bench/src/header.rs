@@ -5,7 +5,7 @@ use std::path::{Path, PathBuf};
 use std::process::{Command, Output};
 
 pub const HEADER: &str = "include/guppyspoon.h";
-const SOURCE: &str = "crates/exports/src/lib.rt";
+const SOURCE: &str = "crates/exports_c/src/lib.rt";
 const RUST: &str = "bench/src/calls.rs";
 
 // The repository's folder.

@@ -2,7 +2,7 @@
 // transcripts of document 02, holds the C header to the library and the documents to both, runs the programs, and measures stack and time. Run it from
 // the repository's root:
 //
-//     rt check deposit join filed && rt staticlib exports && cargo run --release --manifest-path bench/Cargo.toml
+//     tools/build deposit join filed exports && cargo run --release --manifest-path bench/Cargo.toml
 //
 // The parts, of which those named behind `--` are run, or all if none is:
 //

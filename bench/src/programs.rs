@@ -217,7 +217,7 @@ fn missing(program: &Path) -> usize {
     if program.exists() {
         return 0;
     }
-    println!("DIFFERENCE {} is missing: run `rt check {}` first", program.display(), PROGRAMS.join(" "));
+    println!("DIFFERENCE {} is missing: run `tools/build {}` first", program.display(), PROGRAMS.join(" "));
     1
 }
 
