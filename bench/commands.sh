@@ -1,9 +1,9 @@
 #!/usr/bin/env bash
 # Runs every command that README.md and docs/CALLS.md show, in a clean clone of what is committed, in the order of the pages, each once:
 #
-#     bench/commands.sh [TARGET]
+#     bench/commands.sh [CHECKOUT]
 #
-# TARGET is a folder `target` with what was proved before, which is copied into the clone, so that it is not proved again. A command is a line of a
+# CHECKOUT is a checkout with what was proved before, whose folders crates/*/out are copied into the clone, so that it is not proved again. A command is a line of a
 # code block that begins with tools/build, cc, cargo or target/bin/; the gate itself, .ci/run, is not run. A command is taken apart at its &&, and fails where a
 # part of it does. The programs of target/bin/ have no exit status: one of them fails where it tells something on standard error, or prints nothing.
 # The exit status is 1 if a command fails, or a page shows none.
@@ -13,7 +13,9 @@ folder=$(mktemp -d)
 trap 'rm -rf "$folder"' EXIT
 git clone -q "$root" "$folder/clone"
 if [ $# -gt 0 ]; then
-    cp -a "$1" "$folder/clone/target"
+    for out in "$1"/crates/*/out; do
+        cp -a "$out" "$folder/clone/crates/$(basename "$(dirname "$out")")/out"
+    done
 fi
 cd "$folder/clone"
 failed=0
