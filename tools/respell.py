@@ -117,7 +117,9 @@ def turn_antt(text, rows, skip):
     for line in text.split("\n"):
         at = re.search(r"(?:^|(?<=\s))--(?=\s|$)", line)
         code, comment = (line[: at.start()], line[at.start() :]) if at else (line, "")
-        out.append(turn_code(code, rows, skip) + turn_comment(comment, rows))
+        quiet = re.split(r'("(?:\\.|[^"\\])*")', code)
+        code = "".join(q if i % 2 else turn_code(q, rows, skip) for i, q in enumerate(quiet))
+        out.append(code + turn_comment(comment, rows))
     return "\n".join(out)
 
 

@@ -167,10 +167,10 @@ table =
     ∷ record { what = "row 1 as 5, 7, 12: steps, right sides"; is = numbers (tab (right row_is5-7-12 (1 ∷ 14 ∷ [])) 2); should = numbers (6 ∷ 0 ∷ []) }
     ∷ record { what = "row 1 as 5, 7, 12: the verdict"; is = checked row_is5-7-12 (1 ∷ 14 ∷ []); should = rows (fails stepIdentity 1) }
     ∷ record { what = "selectors and wired tags as polynomials"; is = numbers (prepared 17 2 circuit); should = numbers (9 ∷ 8 ∷ 9 ∷ 8 ∷ 16 ∷ 0 ∷ 9 ∷ 9 ∷ 0 ∷ 0 ∷ 16 ∷ 2 ∷ 6 ∷ 14 ∷ 12 ∷ 4 ∷ []) }
-    ∷ record { what = "q_l × a"; is = numbers (reduced 17 3 (mul_p (pre 0) (wire 0))); should = numbers (2 ∷ 14 ∷ 1 ∷ []) }
-    ∷ record { what = "q_r × b"; is = numbers (reduced 17 3 (mul_p (pre 1) (wire 1))); should = numbers (15 ∷ 14 ∷ 5 ∷ []) }
-    ∷ record { what = "q_o × c"; is = numbers (reduced 17 3 (mul_p (pre 2) (wire 2))); should = numbers (8 ∷ 3 ∷ 0 ∷ []) }
-    ∷ record { what = "q_m × a × b"; is = numbers (reduced 17 4 (mul_p (mul_p (pre 3) (wire 0)) (wire 1))); should = numbers (9 ∷ 10 ∷ 11 ∷ 10 ∷ []) }
+    ∷ record { what = "qL × a"; is = numbers (reduced 17 3 (mul_p (pre 0) (wire 0))); should = numbers (2 ∷ 14 ∷ 1 ∷ []) }
+    ∷ record { what = "qR × b"; is = numbers (reduced 17 3 (mul_p (pre 1) (wire 1))); should = numbers (15 ∷ 14 ∷ 5 ∷ []) }
+    ∷ record { what = "qO × c"; is = numbers (reduced 17 3 (mul_p (pre 2) (wire 2))); should = numbers (8 ∷ 3 ∷ 0 ∷ []) }
+    ∷ record { what = "qM × a × b"; is = numbers (reduced 17 4 (mul_p (mul_p (pre 3) (wire 0)) (wire 1))); should = numbers (9 ∷ 10 ∷ 11 ∷ 10 ∷ []) }
     ∷ record { what = "gate"; is = numbers (reduced 17 4 (gate_part 17 pre wire x)); should = numbers (0 ∷ 7 ∷ 0 ∷ 10 ∷ []) }
     ∷ record { what = "factors of N"; is = numbers (reduced 17 2 (upper 0) ++ (reduced 17 2 (upper 1) ++ reduced 17 2 (upper 2))); should = numbers (5 ∷ 16 ∷ 14 ∷ 10 ∷ 10 ∷ 6 ∷ []) }
     ∷ record { what = "factors of D"; is = numbers (reduced 17 2 (lower 0) ++ (reduced 17 2 (lower 1) ++ reduced 17 2 (lower 2))); should = numbers (4 ∷ 0 ∷ 3 ∷ 4 ∷ 5 ∷ 1 ∷ []) }
@@ -189,12 +189,12 @@ table =
     ∷ record { what = "row 1 as 5, 7, 12, beta 1: the row for each gamma"; is = numbers (tab (zero_factor 17 2 circuit row_is5-7-12 1) 17); should = numbers (2 ∷ 1 ∷ 2 ∷ 2 ∷ 2 ∷ 2 ∷ 2 ∷ 2 ∷ 2 ∷ 2 ∷ 2 ∷ 0 ∷ 0 ∷ 2 ∷ 0 ∷ 1 ∷ 2 ∷ []) }
     ∷ record { what = "row 1 as 5, 7, 12, beta 1: number + tag of each place"; is = numbers (tab (tagged 17 2 row_is5-7-12 1) 6); should = numbers (3 ∷ 4 ∷ 6 ∷ 4 ∷ 15 ∷ 3 ∷ []) }
     ∷ record { what = "row 1 as 5, 7, 12, beta 1: how many are different"; is = number (lost_gammas 17 2 row_is5-7-12 1); should = number 4 }
-    ∷ record { what = "meter: q_l 0, q_c 5798, public sum 5798"; is = number (meter_gate 0 5798); should = number 0 }
-    ∷ record { what = "meter: q_l 1, q_c 0, public sum 5798"; is = number (meter_gate 1 0); should = number 2013264921 }
+    ∷ record { what = "meter: qL 0, qC 5798, public sum 5798"; is = number (meter_gate 0 5798); should = number 0 }
+    ∷ record { what = "meter: qL 1, qC 0, public sum 5798"; is = number (meter_gate 1 0); should = number 2013264921 }
     ∷ record { what = "public row: selectors and wired tags as polynomials"; is = numbers (prepared 17 2 bound); should = numbers (1 ∷ 0 ∷ 9 ∷ 8 ∷ 8 ∷ 9 ∷ 0 ∷ 0 ∷ 0 ∷ 0 ∷ 16 ∷ 2 ∷ 6 ∷ 14 ∷ 12 ∷ 4 ∷ []) }
     ∷ record { what = "public row: the public inputs"; is = numbers (interpolation 17 2 two); should = numbers (1 ∷ 1 ∷ []) }
-    ∷ record { what = "public row: q_l × a"; is = numbers (reduced 17 2 (mul_p (prepared_poly 17 2 bound 0) (wire 0))); should = numbers (4 ∷ 15 ∷ []) }
-    ∷ record { what = "public row: q_o × c"; is = numbers (reduced 17 3 (mul_p (prepared_poly 17 2 bound 2) (wire 2))); should = numbers (4 ∷ 6 ∷ 7 ∷ []) }
+    ∷ record { what = "public row: qL × a"; is = numbers (reduced 17 2 (mul_p (prepared_poly 17 2 bound 0) (wire 0))); should = numbers (4 ∷ 15 ∷ []) }
+    ∷ record { what = "public row: qO × c"; is = numbers (reduced 17 3 (mul_p (prepared_poly 17 2 bound 2) (wire 2))); should = numbers (4 ∷ 6 ∷ 7 ∷ []) }
     ∷ record { what = "public row: gate"; is = numbers (reduced 17 3 (gate_part 17 (prepared_poly 17 2 bound) wire (interpolation 17 2 two))); should = numbers (5 ∷ 0 ∷ 12 ∷ []) }
     ∷ record { what = "public row: F"; is = numbers (reduced 17 5 bound_f); should = numbers (13 ∷ 15 ∷ 6 ∷ 2 ∷ 15 ∷ []) }
     ∷ record { what = "public row: transcript"; is = perhaps (proved 0 17 2 bound two witness [] 1 1 2); should = perhaps (some (4 ∷ 15 ∷ 13 ∷ 7 ∷ 9 ∷ 14 ∷ 16 ∷ 2 ∷ 4 ∷ 2 ∷ 15 ∷ [])) }
