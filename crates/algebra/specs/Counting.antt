@@ -1,7 +1,7 @@
 -- The rules of counting: `AtMost K P` says that every list without repetition whose elements satisfy P has at most K of them.
 --
--- All-map, All-both     every element: by an implication; of two properties
--- All-image, Nodup-image  the images of a list's elements: by an implication; without repetition, by a map that keeps things apart
+-- All-map, All_both     every element: by an implication; of two properties
+-- All_image, Nodup_image  the images of a list's elements: by an implication; without repetition, by a map that keeps things apart
 -- at_most_of            fewer things, a larger bound
 -- at_most_none          none at all
 -- at_most_or            things of two kinds: the bounds add up

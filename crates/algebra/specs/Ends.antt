@@ -1,7 +1,7 @@
 -- Parts of a slice: its runs of equal length; and a slice that is written in two parts, one after the other: its front, and then the rest.
 --
 -- run_room         run k of m runs of n words ends within them
--- front_fits, front-is   a front of n words that is written is there to be read again
+-- front_fits, front_is   a front of n words that is written is there to be read again
 -- front_array      the same of an array, for its length
 -- rest_length      the number of words behind a front that is written
 -- both_parts       the slice is then the two lists end to end

@@ -4,9 +4,9 @@
 -- all_in                    what every element satisfies, an element does
 -- in_append_left, in_append_right   an element of one of two lists is one of both end to end
 -- in_image                  the image of an element is one of the images
--- in-getD, getD-in          an element by its index, and back
--- in-tab, tab-in            the elements of f 0, .., f (n - 1)
--- occurs-in, occurs-not, in-occurs   what the test says
+-- in_get_or, get_or_in        an element by its index, and back
+-- in_tab, tab_in            the elements of f 0, .., f (n - 1)
+-- occurs_in, occurs_not, in_occurs   what the test says
 -- nodup_within              a list without repetition is no longer than a list that has all its elements
 -- EXACT COUNTS
 -- exactly_at_most           at most as many
@@ -15,7 +15,7 @@
 -- exactly_image             along a one-to-one map onto the things counted
 -- exactly_or                things of two kinds, of which none is of both: the counts add up
 -- exactly_pairs             pairs, the first below N: the sum over the first of the counts of the second
--- exactly-none, exactly-one, exactly-below   none at all; one only; the numbers below n
+-- exactly_none, exactly_one, exactly_below   none at all; one only; the numbers below n
 -- exactly_each              pairs, with equally many of the second for each of the first: the product of the counts. Of independent things too
 -- DIFFERENT NUMBERS
 -- exactly_different         a list has exactly `different` numbers

@@ -3,7 +3,7 @@
 -- is then one between natural numbers, which `omega arith` proves by multiplying out. The elements are hypotheses `a < p`.
 --
 -- Rep p x   x is an element, and modulo p it is pos - neg
--- rep-var, rep_add, rep-sub, rep_mul   the two numbers of an element, a sum, a difference, a product
+-- rep_var, rep_add, rep_sub, rep_mul   the two numbers of an element, a sum, a difference, a product
 -- reps      the set of these four rules, by which `search` finds the two numbers
 -- ring      two elements are equal where the numbers that they stand for are
 --

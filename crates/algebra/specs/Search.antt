@@ -8,8 +8,8 @@
 -- none_of         where it is n, none passes
 -- first_same      what is first is so once
 -- first_ext       tests that agree below n have one first number
--- both_false, one-true   a test that is the disjunction of two: it fails where both fail; where it passes, one passes
--- first-stop, first-skip, first-end   the loop: the test passes, it fails, there is nothing left
+-- both_false, one_true   a test that is the disjunction of two: it fails where both fail; where it passes, one passes
+-- first_stop, first_skip, first_end   the loop: the test passes, it fails, there is nothing left
 --
 -- Assumes nothing.
 use Rattle.std.specs.Prelude.{◌≡◌, refl, ◌⊎◌, Bool, true, false, ◌||◌}

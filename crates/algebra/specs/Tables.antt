@@ -1,19 +1,19 @@
 -- The list f 0, f 1, .., f (n - 1): its length, its elements, and the laws of a loop that writes it into a slice, one store a turn. Where i
 -- words are written, the slice is `tab f i ++ drop i o`, o being what it was.
 --
--- length-tab, getD-tab, tab-snoc, tab-add, tab-ext   of the list itself
+-- length-tab, get_or-tab, tab_snoc, tab-add, tab_ext   of the list itself
 -- tab-get_or                                  a list is the table of its own elements
 -- tab_const                                 a table of one number
--- gathered-some, gathered-ext               what is gathered, where there is each number; it sees the first n only
--- all-tab, nodup-tab                        every element; no element twice
+-- gathered_some, gathered_ext               what is gathered, where there is each number; it sees the first n only
+-- all_tab, nodup_tab                        every element; no element twice
 -- all_get_d, all_of                          every element, by index
 -- all_append, all_left, all_right           every element of two lists end to end, there and back
--- wrote_none, wrote-more, wrote-all         the loop: before, a turn, after
+-- wrote_none, wrote_more, wrote_all         the loop: before, a turn, after
 -- unread                                    the word that a turn is about to write is still what it was
 --
 -- A loop that writes from the end down: where the words from i on are written, `FromOn f i o` says so of the slice o.
 -- FromOn f i o                              word k of o is f(k), for every k from i on
--- from-none, from_more, from_all            the loop: before, a turn, after
+-- from_none, from_more, from_all            the loop: before, a turn, after
 -- from_read                                 a word from i on, or past the end where f is 0
 --
 -- Assumes nothing.

@@ -1,12 +1,12 @@
 -- The two passes over the positions, downward: what a turn makes of the slots and of the result. A turn leads from k to i = k - 1.
 --
--- next_here, next-skip, next_last    the next position from i on, where i has the label, where it has not, and from past the end
+-- next_here, next_skip, next_last    the next position from i on, where i has the label, where it has not, and from past the end
 -- next_permutation                   the permutation is the next position past k with the label of k
 -- has_slot                           every label has a slot
--- slot_same, slot-other              a slot after a store, for a position with the label of i, and with another
--- Lowest, lowest-none, lowest-more, lowest-all   the first pass: a label's slot holds its lowest position from k on
+-- slot_same, slot_other              a slot after a store, for a position with the label of i, and with another
+-- Lowest, lowest_none, lowest_more, lowest_all   the first pass: a label's slot holds its lowest position from k on
 -- ahead_more                         the second pass: a turn keeps the slots ahead
--- Filled, filled_none, filled_more, filled-all   a table that is filled downward
+-- Filled, filled_none, filled_more, filled_all   a table that is filled downward
 --
 -- Assumes nothing.
 use mathlib.Core.Path.{◌≡◌, sym, ap, ◌∙◌}

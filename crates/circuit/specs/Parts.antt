@@ -8,7 +8,7 @@
 -- prepared_room      each polynomial of a prepared circuit ends within it
 -- wire_room_lem          the wire of a column below 3 ends where z starts, or before
 -- length-prepared, length-wire, length-z   the coefficients of a part
--- short-prepared, short-wire, short-z      they are no more, whatever the buffer
+-- short_prepared, short_wire, short_z      they are no more, whatever the buffer
 --
 -- Assumes nothing.
 use Rattle.std.specs.Prelude.{◌≡◌, Bool, true, false, cond, List, ℕ, zero, suc, ◌+◌, ◌*◌, ◌-◌, ◌≤◌, ◌<◌, eqb, length, drop}

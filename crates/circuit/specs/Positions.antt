@@ -1,6 +1,6 @@
 -- The position of a column and a row: position = column × n + row.
 --
--- position-column, position-row   the column and the row of a position
+-- position-column, position_row   the column and the row of a position
 -- by_position                     what holds at each of m columns and n rows holds at each of the m × n positions
 -- product_by_rows                 the product over the positions, row by row
 --

@@ -1,8 +1,8 @@
 -- The witness as it is lent: there and back.
 --
 -- place_of             the place of a column and a row
--- place-below, position-below   a place and a position lie below 3n
--- place-position, position-place   each of the two undoes the other
+-- place_below, position_below   a place and a position lie below 3n
+-- place_position, position_place   each of the two undoes the other
 -- lent_laid            what is lent so is read back
 -- laid_lent            what is read so is lent back
 -- laid_ext             what is lent sees the 3n positions only

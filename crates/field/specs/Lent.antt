@@ -2,10 +2,10 @@
 --
 -- Shape p n l most          p and n are admissible, n is at most `most`, and l at most n
 -- Lent p n l long due       p and n are admissible, l is at most n, and the lengths are those due
--- shape-numbers, lent-numbers   no such reason has number 0
+-- shape_numbers, lent_numbers   no such reason has number 0
 -- shaped, lent_of           an answer of these reasons with number 0 means that Shape, or Lent, holds
 -- lent_taken                where Lent holds, none of them applies
--- lent-refused, lent-later, lent-known   a call that begins with these reasons, `is` being the table that its code has: it is turned down by them; it goes on to
+-- lent_refused, lent_later, lent_known   a call that begins with these reasons, `is` being the table that its code has: it is turned down by them; it goes on to
 --                           the reasons behind them; and what it knows then
 -- lengths_same              tables of one length that differ nowhere are equal
 -- lengths_none              equal tables are no reason

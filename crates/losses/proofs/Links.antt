@@ -3,7 +3,7 @@
 -- Walked numbers k j    the walk that began at k has come to j: j has k's bucket, and no number behind k, up to j, is equal to number k
 -- buckets_labels        the buckets are labels of as many positions
 -- linked                where the permutation of these labels leads is what links the numbers
--- links-long, link-lt   there is a link for each number, and it leads to one
+-- links_long, link_lt   there is a link for each number, and it leads to one
 -- walk_start            the walk begins
 -- walk_on               it goes on from j to a higher link that is not equal
 -- walk_met              it has met an equal number: number k stands again behind itself
@@ -11,7 +11,7 @@
 -- COUNTING DOWNWARD
 -- counted_none          of no numbers there are 0 different ones
 -- counted_most          no more are counted than there are numbers
--- counted-again, counted-last   one number more: it stands again behind itself, and the count stays; it does not, and the count is one more
+-- counted_again, counted_last   one number more: it stands again behind itself, and the count stays; it does not, and the count is one more
 --
 -- Assumes nothing.
 use mathlib.Core.Path.{◌≡◌, refl, sym, ap, ap₂, ◌∙◌, subst}

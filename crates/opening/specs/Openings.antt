@@ -4,7 +4,7 @@
 -- THE STATEMENT
 -- PassingMixture   a mixing number with which some opening polynomial of 3n - 4 + 9e elements is accepted
 -- Openings         exact: the verdict is accept exactly where the two sides have the same coefficients modulo p, all of them
---                  evaluations-long, opening-long: the definitions give elements, as many as are due
+--                  evaluations_long, opening_long: the definitions give elements, as many as are due
 --                  complete: the right evaluations are accepted with the opening polynomial of the definitions
 --                  only: and with no other of its length
 --                  sound: evaluations that are not all right are accepted with fewer mixing numbers than the list is long, whatever the opening polynomials

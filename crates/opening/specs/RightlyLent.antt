@@ -3,8 +3,8 @@
 -- RightList list      one number or more, no more than there are polynomials by number, and each is a polynomial's
 -- LentRightly         p and n are admissible, the lengths are those due, and the list is right
 -- lent_list_numbers   no reason of the calls has number 0
--- lent-list-of, lent-list-taken   where no reason but 7 applies, the call is lent rightly; and back
--- opening-known, opening-taken    of either call: where no reason applies, it is lent rightly and counts elements only; and back
+-- lent_list_of, lent_list_taken   where no reason but 7 applies, the call is lent rightly; and back
+-- opening_known, opening_taken    of either call: where no reason applies, it is lent rightly and counts elements only; and back
 --
 -- Assumes nothing.
 use Rattle.std.specs.Prelude.{◌≡◌, refl, ◌≢◌, Bool, false, ◌||◌, List, [], ◌∷◌, ℕ, ◌≤◌, ◌<◌, eqb, ltb, length}

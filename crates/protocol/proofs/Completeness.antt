@@ -4,7 +4,7 @@
 -- rows, z, t     z on the rows, as the list of its numbers; z; t
 -- z_passes       z on the rows passes the row check
 -- grand          it is the grand product
--- z-is, laid     z, and the transcript that the prover lays: there is one
+-- z_is, laid     z, and the transcript that the prover lays: there is one
 -- t_holds        t × (X^n - 1) is F
 -- accepts        the point check accepts that transcript, whatever alpha and zeta are, and whichever numbers blind it
 --

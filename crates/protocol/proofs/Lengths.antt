@@ -1,9 +1,9 @@
 -- The numbers of coefficients of F and of its parts.
 --
 -- Short d f                          f has at most d coefficients
--- short-add, short-scale, short-mul, short-dilate   of a sum, a multiple, a product, a dilation
+-- short_add, short_scale, short_mul, short_dilate   of a sum, a multiple, a product, a dilation
 -- short_in                           a larger bound
--- short-gate, short-step, short-start   of the three parts of F
+-- short_gate, short_step, short_start   of the three parts of F
 -- short_F                            F has at most 3a + b + 1 coefficients, for wires of a + 1 and z of b + 1
 -- length-F                           F of constraints has at most 3a + b + 1 coefficients, for wires of a + 1 and z of b + 1
 -- length-F-rows                      at most as many as t has and n more, for wires and z of the lengths that they have in a transcript

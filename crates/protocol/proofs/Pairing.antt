@@ -1,6 +1,6 @@
 -- The pairs (beta, gamma) for which some z passes the row check, where the witness does not satisfy the constraints.
 --
--- product-N, product-D    the products of N(i) and of D(i) over the rows, as products over the positions
+-- product_N, product_D    the products of N(i) and of D(i) over the rows, as products over the positions
 -- Passing                 a pair of elements for which some row values of z pass
 -- few_pairs               at most (3n - 1) × p pairs are such, where the witness does not satisfy the constraints
 --

@@ -4,9 +4,9 @@
 -- blinded_value         their value at x
 -- blinded-root          at an x with x^n = 1 it is that of f
 -- unblinded             where r has no coefficients, f stays as it is
--- wire-blinder-long, z-blinder-long    the coefficients of what blinds a wire, and z
--- wires-elements, z-elements           the wires of a witness, and z of numbers on the rows, are elements, as many as are due
--- interpolated-value, interpolated-at   the value at x of the blinded polynomial through the numbers u; at row i's point it is u(i)
+-- wire_blinder_long, z_blinder_long    the coefficients of what blinds a wire, and z
+-- wires_elements, z_elements           the wires of a witness, and z of numbers on the rows, are elements, as many as are due
+-- interpolated_value, interpolated_at   the value at x of the blinded polynomial through the numbers u; at row i's point it is u(i)
 --
 -- Assumes nothing.
 use Rattle.std.specs.Prelude.{◌≡◌, refl}

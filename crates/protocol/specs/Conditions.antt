@@ -5,7 +5,7 @@
 -- unbroken             where it satisfies the constraints, 9 and 10 apply nowhere
 -- zero_factor-le        11's row is at most n, which stands for none
 -- factors_nonzero      where 11 applies nowhere, no factor of any D(i) is zero
--- zero-at, zero-below  where 11 applies, the factor at some position is zero; and back
+-- zero_at, zero_below  where 11 applies, the factor at some position is zero; and back
 -- zero-factor-labels   11 sees the labels alone of lent constraints
 --
 -- Assumes nothing.

@@ -8,8 +8,8 @@
 -- broken_row, broken_position, zero_row   sheets of prime 17 that are refused by 9, 10 and 11
 -- largest_position, largest_zero         sheets of the largest prime that are refused by 10 and 11
 -- table                                the cases of 17 and 97, which antt computes as they stand
--- root-2, root-4, inverse-is, ..       the roots and inverses of the largest prime, which it cannot compute by their definitions
--- rows-1, .., rows-largest, z-largest  z on its rows, one after the other, and z: each division has its inverse from there
+-- root_2, root_4, inverse_is, ..       the roots and inverses of the largest prime, which it cannot compute by their definitions
+-- rows_1, .., rows-largest, z_largest_lem  z on its rows, one after the other, and z: each division has its inverse from there
 -- largest_table                         the cases of the largest prime
 -- further                              every case is right
 --

@@ -4,7 +4,7 @@
 -- numbered                 where n is a number of rows and the lengths are right, `polynomial` hands back the numbered part
 -- numbered_prepared        the polynomials of the prepared circuit
 -- numbered_wire            the wires
--- numbered-z, numbered-t   z; t
+-- numbered_z, numbered_t   z; t
 --
 -- Assumes nothing.
 use Rattle.std.specs.Prelude.{◌≡◌, true, List, [], ℕ, zero, suc, ◌+◌, ◌≤◌, ◌<◌, length, take}

@@ -2,7 +2,7 @@
 -- under one statement.
 --
 -- circuit, publics, witness       the sheet of document 01: prime 17, two rows, no public inputs; beta, gamma, alpha, zeta are 1, 1, 2, 2
--- last_is11, rowIs5-7-12           the witness with the last value 11, and with row 1 as 5, 7, 12
+-- last_is11, row_is5-7-12          the witness with the last value 11, and with row 1 as 5, 7, 12
 -- prove_answer p n                 the answer to `prove` over p and n rows, lent the sheet's numbers
 -- z_worked, transcript_worked       z at beta 1, gamma 1; the transcript at alpha 2
 -- nine, z_blinded, t_blinded, transcript_blinded   nine numbers that blind; z, t and the transcript that they blind (document 02, request 9)

@@ -1,8 +1,8 @@
 -- The parts that are lent fit into their buffers, and what the buffers are when they come back.
 --
--- transcript-fits, spare-fits   a, b, c and z fit into the transcript, n words into the scratch
--- scratch-fits, filling-fits   the scratch of preparing, and F, fit into the scratch
--- prepared-fits, room_fits, laid-fits   the prepared circuit and the domain points fit into their arrays; a, b, c and z into the transcript
+-- transcript_fits, spare_fits   a, b, c and z fit into the transcript, n words into the scratch
+-- scratch_fits, filling_fits   the scratch of preparing, and F, fit into the scratch
+-- prepared_fits, room_fits, laid_fits   the prepared circuit and the domain points fit into their arrays; a, b, c and z into the transcript
 -- rest_long         the words behind a, b, c and z are as many as t has
 -- transcript_of_lem     a, b, c and z with the quotient behind them are the prover's transcript
 --

@@ -12,7 +12,7 @@
 --                                     printed
 -- JoinAsBefore r' joined' r joined    `join`: the length, and every byte
 -- THE THEOREM
--- rows-as-before, proof-as-before, count-as-before, read-as-before, deposit-as-before, join-as-before   for each call, whatever it is lent besides, and for every
+-- rows_as_before, proof_as_before, count_as_before, read_as_before, deposit_as_before, join_as_before   for each call, whatever it is lent besides, and for every
 --                                     sheet, blinded or not; `proof_as_before` is once over e, which is 0 for `prove` and 1 for `prove_blinded`
 --
 -- A call's answer is any that keeps the call's promise: the former one of Columns, and that of today.

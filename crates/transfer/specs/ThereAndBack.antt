@@ -4,7 +4,7 @@
 -- there_and_back       THE THEOREM, for every list of 3n numbers
 -- rows_read            the wire value of a position, in a witness that was transferred to rows
 -- rows_long            a transferred witness has 3n numbers
--- rows-below, columns-below   it has elements exactly where the other has
+-- rows_below, columns_below   it has elements exactly where the other has
 --
 -- The theorems stand in proofs/ThereAndBack.
 -- Assumes nothing.

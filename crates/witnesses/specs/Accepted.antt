@@ -7,7 +7,7 @@
 -- prove_retired    over 97 the answer is 16, whatever else is lent
 -- refused_by_11    where Honest holds and the challenges are lent rightly, but a factor of some D(i) is 0, the answer is 11
 -- buffer_numbers   no reason of the buffers has number 0
--- behind-of, behind-right   what stands behind the challenges in the two tables of lengths is the same exactly where blinders and scratch have the lengths due
+-- behind_of, behind_right   what stands behind the challenges in the two tables of lengths is the same exactly where blinders and scratch have the lengths due
 -- buffers_of    where none of them applies, p, n, l, the lengths and the numbers are right
 --
 -- The number e is 1 for `prove_blinded`, and 0 for `prove`, which is lent no blinders.
