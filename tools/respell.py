@@ -59,7 +59,8 @@ def spelled(name, words):
 
 # definitions inside a module's block, which the patterns above pass over
 INSIDE = """subP ofOne ofTwo ofPair evaluationsOf mixtureOf openingOf openingVerdict lentListReasons openingReasons openReasons checkReasons gateIdentity
-sheetLine ofWitness gateTest startTest stepTest gateHere badStart lentTest tooGreat""".split()
+sheetLine ofWitness gateTest startTest stepTest gateHere badStart lentTest tooGreat startIdentity stepIdentity rightX onRows
+power-rule root-1024""".split()
 
 
 def table():

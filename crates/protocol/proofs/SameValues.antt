@@ -21,7 +21,7 @@ use Rattle.field.specs.Fields.{tag}
 use Rattle.transform.specs.Transform.{interpolation}
 use Rattle.transform.specs.Interpolation.{interpolation_ext}
 use Rattle.circuit.specs.Circuit.{Constraints, position, gate}
-use Rattle.protocol.specs.Protocol.{row_n, row_d, z_rows, poly_n, poly_d, gate_part, step_part, poly_f, f_of, wire_blinder, blinded, z_through, wires_of, z_of, t_of, transcript, proved, RowVerdict, fails, gate_identity, startIdentity, stepIdentity, row_at, rows_from, row_verdict, broken_gate, broken_copy, zero_factor, witness_reasons, tagged, lost_gammas}
+use Rattle.protocol.specs.Protocol.{row_n, row_d, z_rows, poly_n, poly_d, gate_part, step_part, poly_f, f_of, wire_blinder, blinded, z_through, wires_of, z_of, t_of, transcript, proved, RowVerdict, fails, gate_identity, start_identity, step_identity, row_at, rows_from, row_verdict, broken_gate, broken_copy, zero_factor, witness_reasons, tagged, lost_gammas}
 use Rattle.protocol.specs.GrandProduct.{running_ext}
 
 -- the verdict of a row by its three tests
@@ -29,7 +29,7 @@ abbrev judged : (holds starts steps : Bool) (i : ℕ) (later : RowVerdict) → R
 judged holds starts steps i later =
     elim holds [
       | false ↦ fails gate_identity i
-      | true ↦ elim starts [ true ↦ fails startIdentity i | false ↦ elim steps [ false ↦ fails stepIdentity i | true ↦ later ] ]
+      | true ↦ elim starts [ true ↦ fails start_identity i | false ↦ elim steps [ false ↦ fails step_identity i | true ↦ later ] ]
     ]
 
 by_tests_lem : (i : ℕ) {a a' b b' c c' : Bool} {later later' : RowVerdict} → a ≡ a' → b ≡ b' → c ≡ c' → later ≡ later' → judged a b c i later ≡ judged a' b' c' i later'

@@ -10,7 +10,7 @@ use Rattle.field.specs.Fields.{is_field, is_current, is_rows, greatest_rows, gen
 use Rattle.transform.specs.Transform.{interpolation}
 use Rattle.transform.specs.Parts.{laid}
 use Rattle.circuit.specs.Circuit.{lent_by, by_rows, permutation, gate}
-use Rattle.protocol.specs.Protocol.{running_z, row_n, row_d, poly_n, poly_d, poly_l, gate_part, step_part, start_part, poly_f, quotient, prepared, blinded, RowVerdict, pass, fails, startIdentity, stepIdentity, rows_from, row_verdict, point_verdict, broken_gate, broken_copy, zero_factor, tagged, lost_gammas, lost_pairs}
+use Rattle.protocol.specs.Protocol.{running_z, row_n, row_d, poly_n, poly_d, poly_l, gate_part, step_part, start_part, poly_f, quotient, prepared, blinded, RowVerdict, pass, fails, start_identity, step_identity, rows_from, row_verdict, point_verdict, broken_gate, broken_copy, zero_factor, tagged, lost_gammas, lost_pairs}
 use Rattle.protocol.specs.Worked.{circuit, publics, row_is5-7-12, ◌&◌, table, Worked}
 
 right : All (λ r. r.is ≡ r.should) table
@@ -21,8 +21,8 @@ right = refl & refl & refl & refl & refl & refl & refl & refl & refl & refl & re
 abbrev by_tests : Bool → Bool → Bool → RowVerdict
 by_tests start step0 step1 =
     elim (not start) [
-      | true ↦ fails startIdentity 0
-      | false ↦ elim step0 [ false ↦ fails stepIdentity 0 | true ↦ elim step1 [ false ↦ fails stepIdentity 1 | true ↦ pass ] ]
+      | true ↦ fails start_identity 0
+      | false ↦ elim step0 [ false ↦ fails step_identity 0 | true ↦ elim step1 [ false ↦ fails step_identity 1 | true ↦ pass ] ]
     ]
 
 no_z : (z : ℕ → ℕ) → row_verdict 17 2 circuit publics row_is5-7-12 z 1 1 ≢ pass

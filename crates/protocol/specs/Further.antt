@@ -21,7 +21,7 @@ use Rattle.algebra.specs.Lists.{tab, All}
 use Rattle.field.specs.Fields.{tag}
 use Rattle.circuit.specs.Circuit.{Constraints, lent_constraints, lent_witness, lent_public, permutation, gate}
 use Rattle.circuit.specs.Reasons.{unbound_row}
-use Rattle.protocol.specs.Protocol.{row_n, row_d, z_rows, quotient, prepared, wires_of, z_of, proved, RowVerdict, pass, fails, gate_identity, startIdentity, stepIdentity, row_verdict, PointVerdict, accept, reject, point_f, point_verdict, broken_gate, broken_copy, zero_factor}
+use Rattle.protocol.specs.Protocol.{row_n, row_d, z_rows, quotient, prepared, wires_of, z_of, proved, RowVerdict, pass, fails, gate_identity, start_identity, step_identity, row_verdict, PointVerdict, accept, reject, point_f, point_verdict, broken_gate, broken_copy, zero_factor}
 use Rattle.protocol.specs.Worked.{numbers, perhaps, rows, at_point, Case}
 
 -- THE DEFINITIONS AT A SHEET
@@ -232,8 +232,8 @@ table =
     ∷ record { what = "17: transcript"; is = perhaps (transcript_of seventeen); should = perhaps (some seventeen_transcript) }
     ∷ record { what = "17: row check"; is = rows (row_check seventeen (1 ∷ 11 ∷ 13 ∷ 9 ∷ [])); should = rows pass }
     ∷ record { what = "17: point check, zeta 4"; is = at_point (point_check seventeen seventeen_prepared seventeen_transcript 4); should = at_point accept }
-    ∷ record { what = "17: row check, z(0) is 2"; is = rows (row_check seventeen (2 ∷ 11 ∷ 13 ∷ 9 ∷ [])); should = rows (fails startIdentity 0) }
-    ∷ record { what = "17: row check, z(3) is 8"; is = rows (row_check seventeen (1 ∷ 11 ∷ 13 ∷ 8 ∷ [])); should = rows (fails stepIdentity 2) }
+    ∷ record { what = "17: row check, z(0) is 2"; is = rows (row_check seventeen (2 ∷ 11 ∷ 13 ∷ 9 ∷ [])); should = rows (fails start_identity 0) }
+    ∷ record { what = "17: row check, z(3) is 8"; is = rows (row_check seventeen (1 ∷ 11 ∷ 13 ∷ 8 ∷ [])); should = rows (fails step_identity 2) }
     ∷ record { what = "17: point check, zeta 2"; is = at_point (point_check seventeen seventeen_prepared seventeen_transcript 2); should = at_point accept }
     ∷ record { what = "17: point check, zeta 2, last number changed"; is = at_point (point_check seventeen seventeen_prepared (12 ∷ 14 ∷ 8 ∷ 3 ∷ 3 ∷ 3 ∷ 10 ∷ 4 ∷ 13 ∷ 16 ∷ 16 ∷ 1 ∷ 0 ∷ 16 ∷ 7 ∷ 12 ∷ 15 ∷ 5 ∷ 2 ∷ 5 ∷ 9 ∷ 10 ∷ 8 ∷ 11 ∷ 11 ∷ []) 2); should = at_point reject }
     ∷ record { what = "17, refused by 9: gates"; is = numbers (gates broken_row); should = numbers (0 ∷ 0 ∷ 0 ∷ 4 ∷ []) }
@@ -270,7 +270,7 @@ largest_table =
     ∷ record { what = "t, of the prepared constraints, the wires and z"; is = numbers (quotient 0 2013265921 4 (point_f 0 2013265921 4 largest_prepared (publics largest) largest_transcript largest.beta largest.gamma largest.alpha)); should = numbers (1739109928 ∷ 1878052840 ∷ 329032804 ∷ 1100539225 ∷ 1847986093 ∷ 1539179246 ∷ 1638934222 ∷ 121264089 ∷ 1961147648 ∷ []) }
     ∷ record { what = "point check, zeta 2"; is = at_point (point_check largest largest_prepared largest_transcript 2); should = at_point accept }
     ∷ record { what = "refused by 10: at position 3"; is = numbers (broken largest_position); should = numbers (1 ∷ 2 ∷ 3 ∷ 2 ∷ []) }
-    ∷ record { what = "refused by 10: row check, the last step"; is = rows (row_check largest_position (1 ∷ 1607777443 ∷ [])); should = rows (fails stepIdentity 1) }
+    ∷ record { what = "refused by 10: row check, the last step"; is = rows (row_check largest_position (1 ∷ 1607777443 ∷ [])); should = rows (fails step_identity 1) }
     ∷ record { what = "refused by 11: at row 1"; is = numbers (broken largest_zero); should = numbers (1 ∷ 2 ∷ 6 ∷ 1 ∷ []) }
     ∷ []
 

@@ -17,7 +17,7 @@ use Rattle.transform.specs.Passes.{strided, odd_word, passed}
 use Rattle.circuit.specs.Buffers.{wire_part, z_part, t_part}
 use Rattle.circuit.specs.Circuit.{Constraints, lent_constraints, lent_public, lent_witness, witness_place, lent_by, laid_by, by_rows, laid_witness, permutation, gate}
 use Rattle.circuit.specs.Worked.{public_selectors, labels}
-use Rattle.protocol.specs.Protocol.{wired_tag, running_z, row_n, row_d, poly_n, poly_d, poly_l, gate_part, step_part, start_part, poly_f, quotient, prepared_poly, prepared, wire_blinder, z_blinder, blinded, wires_of, z_of, proved, pass, fails, gate_identity, startIdentity, stepIdentity, rows_from, row_verdict, accept, point_verdict, broken_copy, zero_factor, tagged, lost_gammas}
+use Rattle.protocol.specs.Protocol.{wired_tag, running_z, row_n, row_d, poly_n, poly_d, poly_l, gate_part, step_part, start_part, poly_f, quotient, prepared_poly, prepared, wire_blinder, z_blinder, blinded, wires_of, z_of, proved, pass, fails, gate_identity, start_identity, step_identity, rows_from, row_verdict, accept, point_verdict, broken_copy, zero_factor, tagged, lost_gammas}
 use Rattle.protocol.specs.Worked.{circuit, publics, witness, last_is11, row_is5-7-12, z_worked, nine, z_blinded, t_blinded, Case, Value, number, inverted, numbers, perhaps, rows, at_point, ◌&◌}
 use Rattle.opening.specs.Opening.{polynomial_of, less, named, evaluations_of, mixture_of}
 use Rattle.opening.specs.Worked as opened
@@ -46,13 +46,13 @@ F = poly_f 17 2 pre wire x z 1 1 2
 
 -- the row check with beta and gamma 1, for a witness v and z on the rows: both sides of the step of row i, from the last row to row 0 as well, and the verdict
 abbrev left : (ℕ → ℕ) → List ℕ → ℕ → ℕ
-left v onRows i = coef onRows i * row_n 17 2 v 1 1 i % 17
+left v on_rows i = coef on_rows i * row_n 17 2 v 1 1 i % 17
 
 abbrev right : (ℕ → ℕ) → List ℕ → ℕ → ℕ
-right v onRows i = coef onRows ((i + 1) % 2) * row_d 17 2 circuit v 1 1 i % 17
+right v on_rows i = coef on_rows ((i + 1) % 2) * row_d 17 2 circuit v 1 1 i % 17
 
 abbrev checked : (ℕ → ℕ) → List ℕ → Value
-checked v onRows = rows (row_verdict 17 2 circuit publics v (coef onRows) 1 1)
+checked v on_rows = rows (row_verdict 17 2 circuit publics v (coef on_rows) 1 1)
 
 -- the opening of a, b, c, z and t at 2, with m = 3: each with its value taken off, and the sum of these, times the powers of 3
 abbrev shifted : ℕ → List ℕ
@@ -159,13 +159,13 @@ table =
     ∷ record { what = "last number 11: the verdict"; is = checked last_is11 (1 ∷ 14 ∷ []); should = rows (fails gate_identity 1) }
     ∷ record { what = "z = 2, 11: steps, left sides"; is = numbers (tab (left witness (2 ∷ 11 ∷ [])) 2); should = numbers (12 ∷ 2 ∷ []) }
     ∷ record { what = "z = 2, 11: steps, right sides"; is = numbers (tab (right witness (2 ∷ 11 ∷ [])) 2); should = numbers (12 ∷ 2 ∷ []) }
-    ∷ record { what = "z = 2, 11: the verdict"; is = checked witness (2 ∷ 11 ∷ []); should = rows (fails startIdentity 0) }
+    ∷ record { what = "z = 2, 11: the verdict"; is = checked witness (2 ∷ 11 ∷ []); should = rows (fails start_identity 0) }
     ∷ record { what = "row 1 as 5, 7, 12: gates"; is = numbers (tab (gate 17 2 circuit publics row_is5-7-12) 2); should = numbers (0 ∷ 0 ∷ []) }
     ∷ record { what = "row 1 as 5, 7, 12: N"; is = numbers (tab (row_n 17 2 row_is5-7-12 1 1) 2); should = numbers (6 ∷ 15 ∷ []) }
     ∷ record { what = "row 1 as 5, 7, 12: D"; is = numbers (tab (row_d 17 2 circuit row_is5-7-12 1 1) 2); should = numbers (15 ∷ 0 ∷ []) }
     ∷ record { what = "row 1 as 5, 7, 12: steps, left sides"; is = numbers (tab (left row_is5-7-12 (1 ∷ 14 ∷ [])) 2); should = numbers (6 ∷ 6 ∷ []) }
     ∷ record { what = "row 1 as 5, 7, 12: steps, right sides"; is = numbers (tab (right row_is5-7-12 (1 ∷ 14 ∷ [])) 2); should = numbers (6 ∷ 0 ∷ []) }
-    ∷ record { what = "row 1 as 5, 7, 12: the verdict"; is = checked row_is5-7-12 (1 ∷ 14 ∷ []); should = rows (fails stepIdentity 1) }
+    ∷ record { what = "row 1 as 5, 7, 12: the verdict"; is = checked row_is5-7-12 (1 ∷ 14 ∷ []); should = rows (fails step_identity 1) }
     ∷ record { what = "selectors and wired tags as polynomials"; is = numbers (prepared 17 2 circuit); should = numbers (9 ∷ 8 ∷ 9 ∷ 8 ∷ 16 ∷ 0 ∷ 9 ∷ 9 ∷ 0 ∷ 0 ∷ 16 ∷ 2 ∷ 6 ∷ 14 ∷ 12 ∷ 4 ∷ []) }
     ∷ record { what = "qL × a"; is = numbers (reduced 17 3 (mul_p (pre 0) (wire 0))); should = numbers (2 ∷ 14 ∷ 1 ∷ []) }
     ∷ record { what = "qR × b"; is = numbers (reduced 17 3 (mul_p (pre 1) (wire 1))); should = numbers (15 ∷ 14 ∷ 5 ∷ []) }

@@ -11,7 +11,7 @@ use Rattle.std.specs.Prelude.{◌≡◌, cond, List, ℕ, get_or}
 use Rattle.field.specs.Reasons.{answer_of, is_accepted}
 use Rattle.circuit.specs.Circuit.{Layout, lent_constraints, lent_public, lent_by, by_rows}
 use Rattle.circuit.specs.Reasons.{rows_reasons}
-use Rattle.protocol.specs.Protocol.{gate_identity, startIdentity, stepIdentity, RowVerdict, pass, fails, row_verdict}
+use Rattle.protocol.specs.Protocol.{gate_identity, start_identity, step_identity, RowVerdict, pass, fails, row_verdict}
 use Rattle.protocol.specs.Protocol as protocol
 use Rattle.rowcheck.specs.declared.Identity.{Identity}
 use Rattle.rowcheck.specs.declared.Identity.TheVariants.{Gate, Start, Step}
@@ -21,8 +21,8 @@ use Rattle.rowcheck.specs.declared.RowAnswer.{RowAnswer}
 
 abbrev pub identity_of : protocol.Identity → Identity
 identity_of gate_identity = Gate
-identity_of startIdentity = Start
-identity_of stepIdentity = Step
+identity_of start_identity = Start
+identity_of step_identity = Step
 
 abbrev pub verdict_of : RowVerdict → Verdict
 verdict_of pass = Pass

@@ -174,7 +174,7 @@ module _ (e p n l : ℕ) (selectors labels publics : List ℕ) where
     -- a pair for which some z passes gets the answer Pass, the buffers being lent rightly
     answered : Admissible p n → RightCircuit p n l selectors labels → Elements p l publics → (pair : ℕ × ℕ)
         → PassingPair e p n (lent_constraints n selectors labels) (lent_public publics) wire pair → RowsPass e p n l selectors labels publics wire pair
-    answered A right rightX pair h =
+    answered A right right_x pair h =
         let positive : 0 < p = omega (arith, (field_prime p A.one_of_three).two) in
         let values : List ℕ = evaluation p n h.z in
         let challenges : List ℕ = pair.0 ∷ pair.1 ∷ [] in
@@ -190,7 +190,7 @@ module _ (e p n l : ℕ) (selectors labels publics : List ℕ) where
           checks = record { answer = refl; verdict = refl };
           passes =
               answer_pass answer verdict
-              (rows_taken A right rightX
+              (rows_taken A right right_x
               (laid_elements n (witness_of p n wire) (λ k u. mod-lt _ positive))
               (evaluation_elements p n positive h.z)
               drawn)
@@ -200,7 +200,7 @@ module _ (e p n l : ℕ) (selectors labels publics : List ℕ) where
 -- THE THEOREM
 
 module _ (e p n : ℕ) (he : e ≤ 1) (A : Admissible p n) (l : ℕ) (selectors labels publics : List ℕ) (right : RightCircuit p n l selectors labels)
-    (rightX : Elements p l publics) where
+    (right_x : Elements p l publics) where
   abbrev two : 1 < p
   two = (field_prime p A.one_of_three).two
 
@@ -219,7 +219,7 @@ module _ (e p n : ℕ) (he : e ≤ 1) (A : Admissible p n) (l : ℕ) (selectors 
         K.grand.is,
         λ r checks.
             checks.verdict
-            ∙ answer_pass _ _ (checks.answer ∙ rows_taken A right rightX elements K.grand.elements drawn) K.z_passes,
+            ∙ answer_pass _ _ (checks.answer ∙ rows_taken A right right_x elements K.grand.elements drawn) K.z_passes,
       )
 
   honest_point : (witness : List ℕ)
@@ -240,7 +240,7 @@ module _ (e p n : ℕ) (he : e ≤ 1) (A : Admissible p n) (l : ℕ) (selectors 
             rw (blinded_of e n _ he long.long) at checks.verdict
             ∙ answer_accept _ _
             (checks.answer
-            ∙ point_taken A e scratch he right.circuit.publics_few rightX demand.prepared_long long drawn room)
+            ∙ point_taken A e scratch he right.circuit.publics_few right_x demand.prepared_long long drawn room)
             (K.accepted alpha zeta),
       )
 
@@ -248,12 +248,12 @@ module _ (e p n : ℕ) (he : e ≤ 1) (A : Admissible p n) (l : ℕ) (selectors 
   answers_counted =
       record {
         publics-bound = λ witness elements sat i h.
-            demand.binding _ _ sat i h (all_get_d (λ (x : ℕ). x < p) publics rightX.below i (omega (arith, rightX.long)))
+            demand.binding _ _ sat i h (all_get_d (λ (x : ℕ). x < p) publics right_x.below i (omega (arith, right_x.long)))
             (lent_below n elements (position n 0 i) (omega (arith, right.circuit.publics_few)));
         few_pairs = λ wire elements broken.
             at_most_of ((demand.soundness _ wire elements).pairs broken) (passing e p n l selectors labels publics wire) (omega arith);
         few_alphas = λ wire elements pair hb hg none z ez.
-            (demand.soundness _ wire elements).alphas pair hb hg (λ h. none (answered e p n l selectors labels publics wire A right rightX pair h)) z ez;
+            (demand.soundness _ wire elements).alphas pair hb hg (λ h. none (answered e p n l selectors labels publics wire A right right_x pair h)) z ez;
         few_zetas = λ wire elements pair alpha ha z ez none t et.
             at_most_of ((demand.soundness _ wire elements).zetas pair alpha ha z ez none t et)
             (accepted_zeta e p n l selectors labels publics wire z t (same_blinding e p n l selectors labels publics wire he elements z ez t et) pair alpha)
