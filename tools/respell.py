@@ -100,11 +100,13 @@ def turn_code(text, rows, skip):
 
 
 PROSE = re.compile(r"[\w'◌-]+")
+# the scope's own symbols, which stay in comments and pages
+SYMBOLS = {"qL", "qR", "qO", "qM", "qC"}
 
 
 def turn_prose(text, rows, dashed):
     """a comment or a page: names in capitals-and-small letters everywhere, names with dashes where `dashed` says so"""
-    return PROSE.sub(lambda m: rows.get(m[0], m[0]) if ("-" not in m[0] or dashed) else m[0], text)
+    return PROSE.sub(lambda m: rows.get(m[0], m[0]) if m[0] not in SYMBOLS and ("-" not in m[0] or dashed) else m[0], text)
 
 
 def turn_comment(text, rows):

@@ -1,27 +1,27 @@
 -- Exact counts: `Exactly K P` says that a list without repetition has all things that satisfy P and no others, and that its length is K.
 --
 -- IN A LIST
--- all_in                    what every element satisfies, an element does
+-- all_in                       what every element satisfies, an element does
 -- in_append_left, in_append_right   an element of one of two lists is one of both end to end
--- in_image                  the image of an element is one of the images
--- in_get_or, get_or_in        an element by its index, and back
--- in_tab, tab_in            the elements of f 0, .., f (n - 1)
+-- in_image                     the image of an element is one of the images
+-- in_get_or, get_or_in         an element by its index, and back
+-- in_tab, tab_in               the elements of f 0, .., f (n - 1)
 -- occurs_in, occurs_not, in_occurs   what the test says
--- nodup_within              a list without repetition is no longer than a list that has all its elements
+-- nodup_within                 a list without repetition is no longer than a list that has all its elements
 -- EXACT COUNTS
--- exactly_at_most           at most as many
--- exactly_same              two exact counts of one thing agree
--- exactly_of                of a property that says the same
--- exactly_image             along a one-to-one map onto the things counted
--- exactly_or                things of two kinds, of which none is of both: the counts add up
--- exactly_pairs             pairs, the first below N: the sum over the first of the counts of the second
+-- exactly_at_most              at most as many
+-- exactly_same                 two exact counts of one thing agree
+-- exactly_of                   of a property that says the same
+-- exactly_image                along a one-to-one map onto the things counted
+-- exactly_or                   things of two kinds, of which none is of both: the counts add up
+-- exactly_pairs                pairs, the first below N: the sum over the first of the counts of the second
 -- exactly_none, exactly_one, exactly_below   none at all; one only; the numbers below n
--- exactly_each              pairs, with equally many of the second for each of the first: the product of the counts. Of independent things too
+-- exactly_each                 pairs, with equally many of the second for each of the first: the product of the counts. Of independent things too
 -- DIFFERENT NUMBERS
--- exactly_different         a list has exactly `different` numbers
--- different_most            at most as many as it is long
+-- exactly_different            a list has exactly `different` numbers
+-- different_most               at most as many as it is long
 -- A PERMUTATION
--- perm_onto                 a permutation of 0 .. n - 1 reaches each of them
+-- perm_onto                    a permutation of 0 .. n - 1 reaches each of them
 --
 -- Assumes nothing.
 use Rattle.std.specs.Prelude.{◌≡◌, refl, ◌≢◌, ◌⊎◌, Bool, true, false, cond, List, [], ◌∷◌, ◌++◌, map, ℕ, zero, suc, ◌+◌, ◌*◌, ◌≤◌, ◌<◌, eqb, length, get_or}

@@ -2,8 +2,8 @@
 --
 -- tab f n         the list f 0, f 1, .., f (n - 1)
 -- gathered f n    the same list of numbers that may be none; none where one of them is
--- sum_n n f        f 0 + f 1 + .. + f (n - 1)
--- prod_n n f       f 0 × f 1 × .. × f (n - 1)
+-- sum_n n f       f 0 + f 1 + .. + f (n - 1)
+-- prod_n n f      f 0 × f 1 × .. × f (n - 1)
 -- All P l         every element of l satisfies P
 -- Nodup l         l has no element twice
 -- In x l          x is an element of l

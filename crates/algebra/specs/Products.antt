@@ -1,10 +1,10 @@
 -- Products over k < n, and their reordering by a permutation of 0 .. n - 1.
 --
--- prod_n_ext, prod_n_cong  equal, congruent factors give equal, congruent products
+-- prod_n_ext, prod_n_cong   equal, congruent factors give equal, congruent products
 -- prod_n-mul, prod_n_split  a product of two products; the first factors taken apart
--- prod_n_nonzero           a product of factors that are not zero modulo a prime is not zero
--- telescope               where z starts at 1 and goes from k to k + 1 by num k over den k, z(n) × the product of den is the product of num
--- prod_n_perm              a product reordered by a permutation
+-- prod_n_nonzero            a product of factors that are not zero modulo a prime is not zero
+-- telescope                 where z starts at 1 and goes from k to k + 1 by num k over den k, z(n) × the product of den is the product of num
+-- prod_n_perm               a product reordered by a permutation
 --
 -- Assumes nothing.
 use Rattle.std.specs.Prelude.{◌≡◌, refl, ◌≢◌, ◌⊎◌, List, [], ◌∷◌, ℕ, zero, suc, ◌+◌, ◌*◌, ◌<◌, length}

@@ -2,11 +2,11 @@
 -- words are written, the slice is `tab f i ++ drop i o`, o being what it was.
 --
 -- length-tab, get_or-tab, tab_snoc, tab-add, tab_ext   of the list itself
--- tab-get_or                                  a list is the table of its own elements
+-- tab-get_or                                a list is the table of its own elements
 -- tab_const                                 a table of one number
 -- gathered_some, gathered_ext               what is gathered, where there is each number; it sees the first n only
 -- all_tab, nodup_tab                        every element; no element twice
--- all_get_d, all_of                          every element, by index
+-- all_get_d, all_of                         every element, by index
 -- all_append, all_left, all_right           every element of two lists end to end, there and back
 -- wrote_none, wrote_more, wrote_all         the loop: before, a turn, after
 -- unread                                    the word that a turn is about to write is still what it was

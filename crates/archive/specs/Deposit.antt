@@ -5,7 +5,7 @@
 -- deposit_due             the lengths due of the sheet, which has whatever length it has, and of the text
 -- deposit_reasons         of `deposit`
 -- DepositsWith L          refused: the buffer as it came; accepted: the text, and zeros behind it
--- deposit_text, Deposits  the same by the layout of today
+-- deposit_text, Deposits   the same by the layout of today
 --
 -- Assumes nothing.
 use Rattle.std.specs.Prelude.{◌≡◌, cond, List, [], ◌∷◌, ◌++◌, ℕ, ◌-◌, length, replicate}

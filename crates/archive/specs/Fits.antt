@@ -1,7 +1,7 @@
 -- Every text of a deposit fits into the buffer that is lent for it.
 --
--- text_fits     the text of any sheet has at most text_length bytes
--- deposit_fits  so has what `deposit` answers
+-- text_fits      the text of any sheet has at most text_length bytes
+-- deposit_fits   so has what `deposit` answers
 --
 -- Assumes nothing.
 use Rattle.std.specs.Prelude.{◌≡◌, refl, Bool, true, false, cond, List, [], ◌∷◌, ℕ, ◌≤◌, length, get_or}

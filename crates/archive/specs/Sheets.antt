@@ -1,19 +1,19 @@
 -- What `read` leaves for the prover, and the text of a deposit from it.
 --
--- Right s                what a sheet that is read has: admissible p and n, at most 256 rows, at most n public inputs, elements as challenges
--- right_of               a new sheet with answer number 0 has it
--- prime_text             the text of a sheet that is turned down at its first line, by 1, 2 or 16
--- retired_text           of a sheet over 97 whose first line is in form, the text is refused,16,0, whatever stands behind
+-- Right s          what a sheet that is read has: admissible p and n, at most 256 rows, at most n public inputs, elements as challenges
+-- right_of         a new sheet with answer number 0 has it
+-- prime_text       the text of a sheet that is turned down at its first line, by 1, 2 or 16
+-- retired_text     of a sheet over 97 whose first line is in form, the text is refused,16,0, whatever stands behind
 -- READ INTO ARRAYS OF THE LENGTHS THAT ARE DUE
--- Arrays                 the arrays that are lent have these lengths
--- read_answer_lem        the answer is that of the definitions, of a sheet whose prime may be proved with
--- right                  a sheet that is read without a refusal has what Right says
--- rows_few, publics_few  n and l are at most 256
--- sheet_workable         the prover can be lent the numbers
--- sheet_text_lem, unread_text  the text of the numbers that are read, and of a refusal, is the text of the deposit
+-- Arrays           the arrays that are lent have these lengths
+-- read_answer_lem  the answer is that of the definitions, of a sheet whose prime may be proved with
+-- right            a sheet that is read without a refusal has what Right says
+-- rows_few, publics_few   n and l are at most 256
+-- sheet_workable   the prover can be lent the numbers
+-- sheet_text_lem, unread_text   the text of the numbers that are read, and of a refusal, is the text of the deposit
 -- DEPOSITS
--- refused_deposit, made_deposit  the promise of `deposit`, where it is turned down and where not
--- text_long              where it is not turned down, the buffer has the text's length
+-- refused_deposit, made_deposit   the promise of `deposit`, where it is turned down and where not
+-- text_long        where it is not turned down, the buffer has the text's length
 --
 -- Assumes nothing.
 use Rattle.std.specs.Prelude.{◌≡◌, refl, ◌≢◌, cond, List, [], ◌∷◌, ◌++◌, ℕ, ◌*◌, ◌-◌, ◌≤◌, ◌<◌, length, take, drop, replicate}

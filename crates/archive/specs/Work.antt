@@ -1,20 +1,20 @@
 -- What the functions between the sheet's numbers and the text ask and promise.
 --
--- Lays e                  what the prover's part promises: its answer, and the transcript where it accepts
--- Judgeable e             what the point check has to be lent: elements, and as many as are due
--- Checkable e             the same with the circuit in place of the prepared circuit
--- Workable e              two rows up to 256, as many challenges as a sheet has, which are elements, no blinders where e is 0, and a buffer of the text's length
--- judged_from             the point verdict on a transcript, for the prepared circuit of lent selectors and labels
--- checked_text e          the lines of a transcript, and of the verdict on it
+-- Lays e           what the prover's part promises: its answer, and the transcript where it accepts
+-- Judgeable e      what the point check has to be lent: elements, and as many as are due
+-- Checkable e      the same with the circuit in place of the prepared circuit
+-- Workable e       two rows up to 256, as many challenges as a sheet has, which are elements, no blinders where e is 0, and a buffer of the text's length
+-- judged_from      the point verdict on a transcript, for the prepared circuit of lent selectors and labels
+-- checked_text e   the lines of a transcript, and of the verdict on it
 -- THEOREMS
--- work_reasons            the prover's reasons see no more of transcript and scratch than their lengths
--- work_laid               where none of them applies there is a transcript: the text of an accepted call is never that of a refusal
--- lays_of, laid_of        what the prover promises is Lays; what is laid where the answer's number is 0
--- checkable_of            the transcript that an accepted call laid can be judged
--- proved_text_lem, refused_text_lem  the text of an accepted call, and of a refused one, is the text of the definitions
--- prepared_of, judged_of  what `prepare` and `check_point` promise of buffers that they do not turn down
--- judgeable_of            what can be judged with a circuit can be with the prepared circuit
--- laid_lines              its lines can be put
+-- work_reasons     the prover's reasons see no more of transcript and scratch than their lengths
+-- work_laid        where none of them applies there is a transcript: the text of an accepted call is never that of a refusal
+-- lays_of, laid_of   what the prover promises is Lays; what is laid where the answer's number is 0
+-- checkable_of     the transcript that an accepted call laid can be judged
+-- proved_text_lem, refused_text_lem   the text of an accepted call, and of a refused one, is the text of the definitions
+-- prepared_of, judged_of              what `prepare` and `check_point` promise of buffers that they do not turn down
+-- judgeable_of     what can be judged with a circuit can be with the prepared circuit
+-- laid_lines       its lines can be put
 --
 -- The number e is 1 where the transcript is blinded, and 0 where it is not.
 -- Assumes nothing.

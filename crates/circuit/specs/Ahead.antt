@@ -2,8 +2,8 @@
 --
 -- or_lowest m low k         k if it is below m, else low
 -- next_from m label l k     the first position from k on with the label l, of m; where there is none from k on, the lowest with that label
--- Ahead labels k slots     the slot of each label that occurs holds the position that next_from gives for k
--- Labels labels            the labels of at most 3,072 positions, each below their number
+-- Ahead labels k slots      the slot of each label that occurs holds the position that next_from gives for k
+-- Labels labels             the labels of at most 3,072 positions, each below their number
 --
 -- Assumes nothing.
 use Rattle.std.specs.Prelude.{◌≡◌, true, false, List, ℕ, ◌-◌, ◌≤◌, ◌<◌, eqb, ltb, length, get_or}

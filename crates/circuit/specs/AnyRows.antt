@@ -1,7 +1,7 @@
 -- What is known of a number of rows that one of the three primes has.
 --
--- AnyRows n      n lies from 2 to 1,024
--- any_rows_lem       it does, if one of the three primes has n rows
+-- AnyRows n         n lies from 2 to 1,024
+-- any_rows_lem      it does, if one of the three primes has n rows
 --
 -- Assumes nothing.
 use Rattle.std.specs.Prelude.{◌≡◌, refl, Bool, true, false, ◌||◌, ℕ, ◌≤◌}

@@ -3,28 +3,28 @@
 -- (The scratch of the transforms and of `prepare` has its length in the crate `transform`; `work_length` is made of it.)
 --
 -- COUNTS AND NUMBERS
--- selector_count                         the selectors of a row: q_l, q_r, q_o, q_m, q_c
--- prepared_count                         the polynomials of a prepared circuit: those of the selectors, then those of the wired tags, one for each column
--- wired_number                           which of them is the first of the wired tags
+-- selector_count                           the selectors of a row: qL, qR, qO, qM, qC
+-- prepared_count                           the polynomials of a prepared circuit: those of the selectors, then those of the wired tags, one for each column
+-- wired_number                             which of them is the first of the wired tags
 -- wire_number, z_number, t_number          the numbers of the first wire, of z and of t, polynomials being asked for by number; those of a prepared circuit come first
--- polynomial_count                       how many have a number: the numbers are those below it
--- blinder_count                          the numbers that blind a transcript: two for each wire, three for z
+-- polynomial_count                         how many have a number: the numbers are those below it
+-- blinder_count                            the numbers that blind a transcript: two for each wire, three for z
 -- LENGTHS
 -- selectors_length, labels_length, witness_length   of the selectors, the labels and the witness
--- prepared_length                        of a prepared circuit: its polynomials have n coefficients each
+-- prepared_length                          of a prepared circuit: its polynomials have n coefficients each
 -- wire_length, z_length, quotient_length   the coefficients of a wire, of z and of t
--- f_length                               the coefficients of F, n more than t has: 4n - 3 + 9e (`f_long` of Parts)
--- transcript_length                      of a transcript: 7n - 3 + 18e (`transcript_long` of Parts)
--- opening_length                         the coefficients of an opening polynomial, one less than t has: 3n - 4 + 9e (`opening_long` of Parts)
--- work_length                            of the scratch of a call that lays a transcript, or is lent one: 16n + 64e
--- blinded_by n l                         e of a lent transcript: its length alone decides
+-- f_length                                 the coefficients of F, n more than t has: 4n - 3 + 9e (`f_long` of Parts)
+-- transcript_length                        of a transcript: 7n - 3 + 18e (`transcript_long` of Parts)
+-- opening_length                           the coefficients of an opening polynomial, one less than t has: 3n - 4 + 9e (`opening_long` of Parts)
+-- work_length                              of the scratch of a call that lays a transcript, or is lent one: 16n + 64e
+-- blinded_by n l                           e of a lent transcript: its length alone decides
 -- PLACES
--- prepared_start n s                     where polynomial s of a prepared circuit starts
+-- prepared_start n s                       where polynomial s of a prepared circuit starts
 -- wire_start e n c, z_start e n, t_start e n   where the wire of column c, z and t start in a transcript
 -- PARTS
--- prepared_part n s l                    polynomial s of a prepared circuit
+-- prepared_part n s l                      polynomial s of a prepared circuit
 -- wire_part e n c l, z_part e n l, t_part e n l   the wire of column c, z and t of a transcript; t is what stands behind z
--- by_number k pre wire z t none          what belongs to polynomial k
+-- by_number k pre wire z t none            what belongs to polynomial k
 --
 -- Assumes nothing.
 use Rattle.std.specs.Prelude.{cond, List, ℕ, ◌+◌, ◌*◌, ◌-◌, eqb, ltb, length, take, drop}

@@ -1,25 +1,25 @@
 -- The circuit, its permutation and its gates (document 01, "Circuit, wiring and contents").
 --
--- position n c i            the position of column c and row i: c × n + i
--- Constraints               the selectors of a row and the label of a position (001: the constraint system)
--- is_public q_l q_r q_o q_m q_c   these are the selectors of a public row: q_l is 1, the others are 0, so that its gate is a - x
--- is_public_row C i           those of row i are
--- Circuit p n l C           C is a circuit of n rows with l public inputs: l is at most n, the selectors of a row are elements, the label of a position
---                           is below 3n, and the rows below l are public rows
--- lent_constraints n s l     the constraints in lent selectors and labels, column after column
--- Layout                    how a witness (document 01: the contents) is lent: place n k is where the wire value of position k stands, position_at n j is the
---                           position whose wire value stands at place j
--- lent_by L n w k            the wire value of position k, in a witness that is lent by the layout L
--- laid_by L n v              the wire values v of the 3n positions, as they are lent by L
+-- position n c i                  the position of column c and row i: c × n + i
+-- Constraints                     the selectors of a row and the label of a position (001: the constraint system)
+-- is_public q_l q_r q_o q_m q_c   these are the selectors of a public row: qL is 1, the others are 0, so that its gate is a - x
+-- is_public_row C i               those of row i are
+-- Circuit p n l C                 C is a circuit of n rows with l public inputs: l is at most n, the selectors of a row are elements, the label of a position
+--                                 is below 3n, and the rows below l are public rows
+-- lent_constraints n s l          the constraints in lent selectors and labels, column after column
+-- Layout                          how a witness (document 01: the contents) is lent: place n k is where the wire value of position k stands, position_at n j is the
+--                                 position whose wire value stands at place j
+-- lent_by L n w k                 the wire value of position k, in a witness that is lent by the layout L
+-- laid_by L n v                   the wire values v of the 3n positions, as they are lent by L
 -- witness_place n k, witness_position n j   a witness is lent row by row (document 02, request 8): position k stands at 3 × row + column, and place j has column
---                           j % 3 and row j / 3
--- by_rows                    the layout that is so
+--                                 j % 3 and row j / 3
+-- by_rows                         the layout that is so
 -- lent_witness n w k, laid_witness n v   a witness that is lent by it, read and laid
--- lent_public x              the public input of a row, in lent public inputs (document 01: public numbers); 0 past their end
--- permutation m label k     where the copy permutation leads from position k (document 01: the wiring): the next higher of the m positions with
---                           its label, from the highest to the lowest; a lone position leads to itself
--- gate p n C x v i          the gate of row i: q_l×a + q_r×b + q_o×c + q_m×a×b + q_c - x
--- Satisfies p n C x v       the witness satisfies the constraints (document 01: the circuit): each gate holds, and positions of equal label agree
+-- lent_public x                   the public input of a row, in lent public inputs (document 01: public numbers); 0 past their end
+-- permutation m label k           where the copy permutation leads from position k (document 01: the wiring): the next higher of the m positions with
+--                                 its label, from the highest to the lowest; a lone position leads to itself
+-- gate p n C x v i                the gate of row i: qL×a + qR×b + qO×c + qM×a×b + qC - x
+-- Satisfies p n C x v             the witness satisfies the constraints (document 01: the circuit): each gate holds, and positions of equal label agree
 --
 -- Assumes nothing.
 use Rattle.std.specs.Prelude.{◌≡◌, Bool, true, false, ◌&&◌, List, ℕ, suc, ◌+◌, ◌*◌, ◌/◌, ◌%◌, ◌-◌, ◌≤◌, ◌<◌, pred, eqb, ltb, get_or}

@@ -6,7 +6,7 @@
 -- blinded_most      the e of a lent transcript is 0 or 1
 -- blinded_of         a transcript of the length that is due for e has this e
 -- prepared_room      each polynomial of a prepared circuit ends within it
--- wire_room_lem          the wire of a column below 3 ends where z starts, or before
+-- wire_room_lem      the wire of a column below 3 ends where z starts, or before
 -- length-prepared, length-wire, length-z   the coefficients of a part
 -- short_prepared, short_wire, short_z      they are no more, whatever the buffer
 --

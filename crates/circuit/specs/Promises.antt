@@ -1,14 +1,14 @@
 -- What the two public calls of this crate promise.
 --
--- Permutes p n labels positions r positions'   what `permutation` promises of its answer r and of the lent positions afterwards
+-- Permutes p n labels positions r positions'      what `permutation` promises of its answer r and of the lent positions afterwards
 -- any_rows n                 n is a number of rows that one of the three primes has
--- Part                      a part of a lent buffer: the buffer, where the part starts, how many numbers it has
+-- Part                       a part of a lent buffer: the buffer, where the part starts, how many numbers it has
 -- no_part transcript         the empty part at the transcript's start
 -- prepared_place n s prepared               polynomial s of a lent prepared circuit
 -- wire_place e n c transcript, z_place, t_place   the wire of column c, z and t of a lent transcript
 -- numbered_part e n k prepared transcript   polynomial k of lent buffers of the right lengths
 -- polynomial_part n k prepared transcript   the same of any lent buffers: none where n or a length is wrong
--- Hands P r                 what `polynomial` promises of the part r that it hands back: it has the numbers of P, and lies where they lie
+-- Hands P r                  what `polynomial` promises of the part r that it hands back: it has the numbers of P, and lies where they lie
 --
 -- Assumes nothing.
 use Rattle.std.specs.Prelude.{◌≡◌, Bool, cond, ◌&&◌, ◌||◌, List, ℕ, ◌+◌, ◌*◌, eqb, length, get_or, take, drop}

@@ -1,7 +1,7 @@
 -- The public inputs bind: what the public rows of a circuit say of a witness.
 --
--- public_selectors_lem   the selectors of a public row: q_l is 1, the others are 0
--- public_bound       a witness that satisfies a circuit has a(i) = x(i) in every row i below l, where both are elements
+-- public_selectors_lem   the selectors of a public row: qL is 1, the others are 0
+-- public_bound           a witness that satisfies a circuit has a(i) = x(i) in every row i below l, where both are elements
 --
 -- Assumes nothing.
 use Rattle.std.specs.Prelude.{◌≡◌, true, ◌&&◌, ℕ, zero, suc, ◌<◌, eqb}

@@ -1,10 +1,10 @@
--- The reasons for turning down a call that is lent a circuit or its polynomials, in document 01's order, with document 02's 14 behind 8 and 17 behind 14. Each call
+-- The reasons for turning down a call that is lent a circuit or its polynomials, in document 01's order, with document 02's 14 behind 8. Each call
 -- has the table of the lengths due, its buffers in the order in which they are counted; then all its reasons: those of p, n, l and the lengths
--- (2, 3, 4, 6), and those of the numbers in the buffers (7, 8, 14).
+-- (2, 3, 4, 6), and those of the numbers in the buffers (7, 8, 14). The reason of a block length, 17, belongs to request 10: no call has it yet.
 --
 -- bad_label n labels         8: a label is 3n or more; detail: the lowest such position
 -- unbound_row C l            the lowest row below l that is no public row; l where each is one
--- bad_public_row C l          14: a row below l is no public row; detail: the lowest such row
+-- bad_public_row C l         14: a row below l is no public row; detail: the lowest such row
 -- is_block n block           `block` is a block length of n rows (document 02, request 10): a power of two (its binary form has one 1) that divides n
 -- bad_block n block          17: it is none
 -- circuit_reasons n l selectors labels       8 and 14
@@ -14,7 +14,7 @@
 -- rows_due, rows_reasons                 of `check_rows`
 -- point_due, point_reasons               of `check_point`, which takes a transcript of either length
 -- prove_due e, prove_long e, prove_buffer_reasons e   the lengths due and the lengths that are lent, and the reasons, of `prove` (e is 0) and of `prove_blinded` (e is 1), but for
---                                      that of the block length (17), those that look at the witness (9, 10, 11) and that of a retired prime (16)
+--                                        those that look at the witness (9, 10, 11) and that of a retired prime (16)
 --
 -- Assumes nothing.
 use Rattle.std.specs.Prelude.{Bool, not, ◌&&◌, List, [], ◌∷◌, ◌++◌, ℕ, ◌*◌, ◌%◌, eqb, length, replicate}

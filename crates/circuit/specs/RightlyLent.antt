@@ -5,7 +5,7 @@
 -- labels_of                           such labels are what the permutation asks
 -- at_end, at_none                     a search that applies nowhere has come to its end; and back
 -- circuit_of, bound                   a circuit, from elements, labels below 3n and no row for 14; and no row for 14, from a circuit
--- numbers_of_lem                          where 7, 8 and 14 do not apply, elements, labels and public rows are right
+-- numbers_of_lem                      where 7, 8 and 14 do not apply, elements, labels and public rows are right
 -- lent_numbers_of, lent_numbers_taken where no reason of p, n, l, the lengths and the numbers applies, all of them are right; and back
 -- prepare_taken, rows_taken, point_taken   no reason of `prepare`, `check_rows` or `check_point` applies to buffers of the right lengths that hold a circuit and elements
 --

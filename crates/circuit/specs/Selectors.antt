@@ -1,9 +1,9 @@
 -- Rows of selectors in a list of words: those of row i stand from word start + i × step on, `apart` from one another. Lent selectors, column after
 -- column, are such rows (0, 1, n), and so are the lines of a table.
 --
--- is_public_at words apart at             the words from `at` on, so far apart, are the selectors of a public row
+-- is_public_at words apart at            the words from `at` on, so far apart, are the selectors of a public row
 -- unbound_in words start step apart l    the lowest row below l that is no public row; l where each is one
--- Spaced words start step apart l       the words have room for the selectors of l rows
+-- Spaced words start step apart l        the words have room for the selectors of l rows
 -- unbound_same       where the rows are those of constraints, it is the row that 14 names
 -- unbound_lent       so it is for lent selectors
 --

@@ -1,7 +1,7 @@
 -- What a circuit is, at document 01's worked sheet: prime 17, two rows.
 --
 -- selectors, labels    those of the sheet
--- public_selectors      the same with row 0 made a public row
+-- public_selectors     the same with row 0 made a public row
 -- Worked, worked       the sheet is a circuit with no public input and not one with 1; with row 0 made a public row it is one with 1 and not one with 2;
 --                      the row that 14 names; and where the wire values of two and of four rows are lent; that these are so
 --

@@ -4,7 +4,7 @@ ghost use Rattle.circuit.specs.Circuit.{is_public};
 ghost use Rattle.circuit.specs.Buffers.{selector_count};
 ghost use Rattle.circuit.specs.Selectors.{is_public_at, unbound_in, Spaced};
 
-// Whether these are the selectors of a public row: q_l is 1, and the others are 0.
+// Whether these are the selectors of a public row: qL is 1, and the others are 0.
 fn is_public(ql: u32, qr: u32, qo: u32, qm: u32, qc: u32) -> bool
     ensures { result ≡ is_public ql qr qo qm qc }
 {

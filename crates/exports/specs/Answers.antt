@@ -1,24 +1,24 @@
 -- How an answer is handed to a caller in C or Rust: as words at the start of a lent buffer.
 --
 -- over words buffer     the words over the start of a buffer, as many as it has room for; the rest of the buffer as it was
--- answer_words r         number and detail
--- no_element             a word that is no element of any field: the greatest
--- no_element_lem            it is not below p
--- is_there i             1 where there is an inverse, 0 where there is none
--- inverse_word i         the inverse; no_element where there is none
--- inverted_words r       number, detail, whether there is an inverse, and the inverse
--- identity_word id       the word of a failing identity: 2 gate, 3 start, 4 step
--- verdict_word v         the word of a row verdict: 0 none, 1 pass, or that of the identity that fails
--- verdict_row v          the row that fails; 0 where none does
--- row_words r            number, detail, the word of the verdict and its row
--- judged_word v          the word of a point verdict: 0 none, 1 accept, 2 reject
--- point_words r          number, detail and the word of the verdict
--- said_word b            1 for yes, 0 for no
--- sheet_words r          number, detail, p, n, l and whether there was a line of blinders
--- count_words r k        number, detail and a count or a length
--- counted_words r        with the count of lost gammas
--- deposited_words r      with the length of the text
--- joined_words r         with the length of the joined sheet
+-- answer_words r        number and detail
+-- no_element            a word that is no element of any field: the greatest
+-- no_element_lem        it is not below p
+-- is_there i            1 where there is an inverse, 0 where there is none
+-- inverse_word i        the inverse; no_element where there is none
+-- inverted_words r      number, detail, whether there is an inverse, and the inverse
+-- identity_word id      the word of a failing identity: 2 gate, 3 start, 4 step
+-- verdict_word v        the word of a row verdict: 0 none, 1 pass, or that of the identity that fails
+-- verdict_row v         the row that fails; 0 where none does
+-- row_words r           number, detail, the word of the verdict and its row
+-- judged_word v         the word of a point verdict: 0 none, 1 accept, 2 reject
+-- point_words r         number, detail and the word of the verdict
+-- said_word b           1 for yes, 0 for no
+-- sheet_words r         number, detail, p, n, l and whether there was a line of blinders
+-- count_words r k       number, detail and a count or a length
+-- counted_words r       with the count of lost gammas
+-- deposited_words r     with the length of the text
+-- joined_words r        with the length of the joined sheet
 -- Handed words promise buffer buffer'   the call was made, its answer keeps the call's own promise, and its words stand in the buffer
 --
 -- Assumes nothing.

@@ -1,23 +1,23 @@
 -- Laws of the reasons for turning a call down.
 --
--- none_applies     an answer with number 0 means that no reason of the list applies (no reason has number 0)
--- taken            where no reason of the list applies, the answer is number 0, detail 0
--- numbers_append   of two lists of reasons, none has number 0
+-- none_applies      an answer with number 0 means that no reason of the list applies (no reason has number 0)
+-- taken             where no reason of the list applies, the answer is number 0, detail 0
+-- numbers_append    of two lists of reasons, none has number 0
 -- answer_of-append  of two lists of reasons: the answer of the first, unless none of its reasons applies
--- both_none        an answer of two lists with number 0: so is that of each
--- both_taken       where both answers are number 0, detail 0, so is that of the two lists
+-- both_none         an answer of two lists with number 0: so is that of each
+-- both_taken        where both answers are number 0, detail 0, so is that of the two lists
 -- refused_first, refused_later   the same for a call that answers by the first list where one of its reasons applies, and else by the second
 -- after_numbers, after_same   with a reason put in straight after another, still none has number 0; and if it does not apply, the answer is as it was
--- current_first    16 stands straight after 2: the reasons of the prime come first, where those of a call begin with 2
--- current_numbers  with 16, still none has number 0
--- current_refused  the reasons of the prime answer, where one of them applies
+-- current_first     16 stands straight after 2: the reasons of the prime come first, where those of a call begin with 2
+-- current_numbers   with 16, still none has number 0
+-- current_refused   the reasons of the prime answer, where one of them applies
 -- prime_current, current_known   where neither 2 nor 16 applies, p may be proved with
--- current_answer   where p may be proved with, the answer is that without 16
--- elements_of      where no number of a list is p or more, all are elements
--- elements_none    where all are elements, none is p or more
+-- current_answer    where p may be proved with, the answer is that without 16
+-- elements_of       where no number of a list is p or more, all are elements
+-- elements_none     where all are elements, none is p or more
 -- first_above-le    the place of the first number that is p or more is at most the length
 -- first_above-append  of two lists end to end: the place in the first, or else the length of the first + the place in the second
--- further          the same for a call that has passed the first list and goes on with the second
+-- further           the same for a call that has passed the first list and goes on with the second
 --
 -- Assumes nothing.
 use Rattle.std.specs.Prelude.{◌≡◌, refl, ◌≢◌, Bool, true, cond, List, [], ◌∷◌, ◌++◌, ℕ, ◌+◌, ◌-◌, ◌≤◌, ◌<◌, eqb, ltb, get_or}

@@ -1,6 +1,6 @@
 -- Why a call is turned down. Each call has an ordered list of reasons, and its answer is the first that applies.
 --
--- Reason             a number of document 01, its detail, and whether it applies
+-- Reason              a number of document 01, its detail, and whether it applies
 -- answer_of rs        the number and detail of the first reason that applies; number 0, detail 0 (accepted) where none does
 -- is_accepted a       the answer's number is 0
 -- bad_field p         2: p is none of the three primes
@@ -19,7 +19,7 @@
 -- current_only p rs   the reasons rs of a call that takes only primes that may be proved with: 16 straight after 2
 -- inverse_reasons p x the reasons of `inverse`
 -- inverse_as o        the inverse as the enum of `inverse`
--- Inverts p x r      what `inverse` promises of its answer r
+-- Inverts p x r       what `inverse` promises of its answer r
 --
 -- Assumes nothing.
 use Rattle.std.specs.Prelude.{◌≡◌, Bool, not, cond, ◌||◌, List, [], ◌∷◌, ◌++◌, ℕ, suc, eqb, leb, ltb, length, get_or}

@@ -1,13 +1,13 @@
 -- Two sheets joined to one (document 02, "Joining two deposits").
 --
 -- THE JOINED SHEET
--- Numbers               the numbers of a sheet: p, n and l, and the five buffers as they are lent
--- on_sheet_with L s       those that stand on the sheet s, the witness being lent by the layout L
--- text_of_with L N        the sheet that is written from them
+-- Numbers                the numbers of a sheet: p, n and l, and the five buffers as they are lent
+-- on_sheet_with L s      those that stand on the sheet s, the witness being lent by the layout L
+-- text_of_with L N       the sheet that is written from them
 -- constraints_of N, public_of N, witness_of N   their constraints, public inputs and wire values
--- Satisfied N           the wire values satisfy the constraints with the public inputs
+-- Satisfied N            the wire values satisfy the constraints with the public inputs
 -- source_row n l m i     which row stands at row i of the joined sheet, of two sheets of n rows with l and m public inputs: row r of the first (inl r), or
---                       row r of the second (inr r). The public rows of the first, those of the second, the other rows of the first, those of the second
+--                        row r of the second (inr r). The public rows of the first, those of the second, the other rows of the first, those of the second
 -- from_row f g s         f of a row of the first, g of a row of the second
 -- from_second n l m k    position k of the joined sheet comes from the second
 -- joined_at n l m f g k  the number at position k of the joined sheet, f and g giving those at the positions of the first and of the second
@@ -18,9 +18,9 @@
 -- join_due               the lengths due of the two sheets, which have whatever lengths they have, and of the written buffer
 -- other_shape            15: the prime or n differ
 -- pair_reasons           15, and 3 where the doubled n is too great
--- join_reasons_with L     of `join`: those of the first sheet as a new one, with 6 for the written buffer among them; those of the second; those of the pair
+-- join_reasons_with L    of `join`: those of the first sheet as a new one, with 6 for the written buffer among them; those of the second; those of the pair
 -- THE PROMISE
--- JoinsWith L           refused: the buffer as it came; accepted: the joined sheet, and zeros behind it
+-- JoinsWith L            refused: the buffer as it came; accepted: the joined sheet, and zeros behind it
 -- BY THE LAYOUT OF TODAY
 -- on_sheet, text_of, joined_numbers, joined_text, join_reasons, Joins   the same, row by row
 --

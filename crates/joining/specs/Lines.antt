@@ -3,11 +3,11 @@
 -- source_as s                 the row that stands at a row, as the enum of `source_of`
 -- number_in raise t i j       number j of line i of a table: as it is before the field of the labels, raised from there on
 -- line_in raise t i k         the k numbers of line i
--- Raisable raise t i k       a table has a line i of k numbers, and those raised are words
+-- Raisable raise t i k        a table has a line i of k numbers, and those raised are words
 -- row_in n l m start k t u i  the line of row i of the joined sheet, of k numbers: the rows stand from line `start` of either sheet on, and the labels of the second are
---                            raised by 3n. So it is a gate line (1 and gate_fields), or the wire values (n + 1 and 3, which end before the field of the labels)
+--                             raised by 3n. So it is a gate line (1 and gate_fields), or the wire values (n + 1 and 3, which end before the field of the labels)
 -- RowLines n l m start k t u   what this asks of the tables of two sheets of n rows, with l and m public inputs
--- Tables n l m t u           the tables can be joined
+-- Tables n l m t u            the tables can be joined
 -- public_in n t i             the line of public input i
 -- table_text p n l m t u      the joined sheet
 --

@@ -2,9 +2,9 @@
 --
 -- OF ONE SHEET s, WITH A TABLE t THAT HOLDS ITS LINES
 -- gate_line, contents_line, public_line_lem, challenges_line   the lines of the table are the numbers of the sheet, its labels raised
--- label_few      its labels are below 3n
+-- label_few          its labels are below 3n
 -- OF TWO SHEETS THAT CAN BE JOINED
--- tables         the tables are what the functions ask
+-- tables             the tables are what the functions ask
 -- table_text_lem     the text that is put from the tables is the joined sheet
 -- found_tables, found_text   both, by the numbers p, n, l and m of a pair that was decided
 --

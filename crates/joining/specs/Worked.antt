@@ -1,6 +1,6 @@
 -- Document 01's worked sheet joined to the same with row 0 made a public row: the definitions make of both what document 02 says.
 --
--- second       the second sheet: its challenges begin with 3, to tell them from the first's
+-- second        the second sheet: its challenges begin with 3, to tell them from the first's
 -- over_largest  the first sheet over the prime 2013265921
 -- joined_bytes  the joined sheet, written by hand
 -- Worked, worked   the joined sheet, its rows, and the answers to this pair and to pairs near it; that they are so

@@ -1,6 +1,6 @@
 -- What the functions that count different numbers ask of their buffers.
 --
--- buckets_of numbers      the bucket of each number: its remainder by how many there are
+-- buckets_of numbers     the bucket of each number: its remainder by how many there are
 -- Linked numbers next    there are at most 3,072 numbers, and `next` has where the copy permutation of the buckets leads from each
 --
 -- Assumes nothing.

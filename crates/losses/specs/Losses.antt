@@ -1,7 +1,7 @@
 -- How many gammas a beta loses, as a call (document 02, request 6): its reasons and its promise. The count itself, `lost_gammas`, stands with the protocol.
 --
--- lost_due n               the lengths due: the witness, and one challenge, beta
--- lost_reasons             all reasons of `lost_gammas`, in document 01's order: 2, 3, 6, 7
+-- lost_due n              the lengths due: the witness, and one challenge, beta
+-- lost_reasons            all reasons of `lost_gammas`, in document 01's order: 2, 3, 6, 7
 -- LosesGammasWith L       what `lost_gammas` promises of its answer, where the witness is lent by the layout L
 -- LosesGammas             the same by that of today
 --

@@ -1,6 +1,6 @@
 -- The polynomials that a list names: they are what the request by number hands back, and none has more coefficients than t.
 --
--- any_rows_lem           an admissible number of rows is one that some prime has
+-- any_rows_lem       an admissible number of rows is one that some prime has
 -- handed             the part that `polynomial` hands back of buffers of the right lengths is the polynomial of the definitions
 -- short_polynomial   a polynomial by number has at most as many coefficients as t
 --

@@ -1,8 +1,8 @@
 -- What the two public calls of this crate promise, lent a transcript of either length. The challenges are the point, then m.
 --
 -- judged_opening     the verdict of `check_opening` on lent buffers, as the case of the answer's enum
--- Opens             what `open` promises of its answer r and of the lent evaluations, opening polynomial and scratch afterwards
--- ChecksOpening     what `check_opening` promises of its answer r and of the lent scratch afterwards
+-- Opens              what `open` promises of its answer r and of the lent evaluations, opening polynomial and scratch afterwards
+-- ChecksOpening      what `check_opening` promises of its answer r and of the lent scratch afterwards
 --
 -- Assumes nothing.
 use Rattle.std.specs.Prelude.{◌≡◌, cond, List, ℕ, get_or, replicate}

@@ -1,12 +1,12 @@
 -- The reasons for turning down `open` and `check_opening`, in order: 2, 3 and 6, then those of the list, 12 and 13, then 7.
 --
 -- opening_due e n k     the lengths due, e being 1 where the transcript is blinded, else 0, and k the list's: prepared circuit, transcript, list (of any
---                      length), evaluations, opening polynomial, challenges, scratch
+--                       length), evaluations, opening polynomial, challenges, scratch
 -- bad_list list         12: the list is empty, or longer than there are polynomials by number
 -- bad_number list       13: a number in it is no polynomial's; detail: the first such place in the list
 -- list_reasons list     12 and 13
--- lent_list_reasons      the reasons of both calls but the last: those of p, n and the lengths, then those of the list
--- counted checks       the elements that 7 counts, end to end: `open` (false) only writes the evaluations and the opening polynomial, and skips them
+-- lent_list_reasons     the reasons of both calls but the last: those of p, n and the lengths, then those of the list
+-- counted checks        the elements that 7 counts, end to end: `open` (false) only writes the evaluations and the opening polynomial, and skips them
 -- opening_reasons       all reasons of `check_opening` (true) or of `open` (false)
 -- open_reasons, check_reasons   the same by name
 --

@@ -1,6 +1,6 @@
 -- What the public call of this crate promises.
 --
--- judged_as v             the case of the answer's enum for a verdict of document 01
+-- judged_as v            the case of the answer's enum for a verdict of document 01
 -- judged_at p n publics prepared transcript challenges   the verdict on lent buffers, the transcript of either length, with the
 --                        challenges beta, gamma, alpha, zeta in that order
 -- PointChecks            what `check_point` promises of its answer r and of the lent scratch afterwards

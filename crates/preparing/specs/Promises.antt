@@ -2,7 +2,7 @@
 --
 -- Prepares    refused: prepared circuit and scratch as they came; accepted: the prepared circuit of the definitions, and zeros in the scratch
 -- Checked     what the call has checked: p and n are admissible, the selectors are elements, the labels below 3n, and the lengths are right
--- rows_of      the row values that preparing interpolates, end to end: the selectors, then the tags of where the permutation leads
+-- rows_of     the row values that preparing interpolates, end to end: the selectors, then the tags of where the permutation leads
 --
 -- Assumes nothing.
 use Rattle.std.specs.Prelude.{◌≡◌, cond, List, ◌++◌, ℕ, ◌*◌, length, get_or, replicate}

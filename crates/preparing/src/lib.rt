@@ -70,7 +70,7 @@ pub fn work(p: u32, n: u32, selectors: &[u32], labels: &[u32], out: &mut [u32], 
     transform::slices::clear(scratch);
 }
 
-// The prepared circuit: q_l, q_r, q_o, q_m, q_c and the three polynomials of the tags of where the permutation leads, end to end. l is the number of
+// The prepared circuit: qL, qR, qO, qM, qC and the three polynomials of the tags of where the permutation leads, end to end. l is the number of
 // public inputs: the rows below it must be public rows.
 pub fn prepare(
     p: u32,

@@ -3,7 +3,7 @@
 --
 -- satisfied            where 9 and 10 apply nowhere, the witness satisfies the constraints
 -- unbroken             where it satisfies the constraints, 9 and 10 apply nowhere
--- zero_factor-le        11's row is at most n, which stands for none
+-- zero_factor-le       11's row is at most n, which stands for none
 -- factors_nonzero      where 11 applies nowhere, no factor of any D(i) is zero
 -- zero_at, zero_below  where 11 applies, the factor at some position is zero; and back
 -- zero-factor-labels   11 sees the labels alone of lent constraints

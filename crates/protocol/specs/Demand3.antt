@@ -1,7 +1,7 @@
 -- Demand 3, the soundness and the completeness of the protocol, for every admissible p and n and every circuit. Each challenge runs over 0 to p - 1.
 --
 -- THE STATEMENT
--- witness_of p n wire                 the wire values that are the values of three wires at the domain points (document 01: the contents)
+-- witness_of p n wire                the wire values that are the values of three wires at the domain points (document 01: the contents)
 -- PassingPair e p n C x wire s       the pair s = (beta, gamma) is one for which some z passes the row check
 -- HoldingAlpha e p n C x wire z s a  the alpha a is one for which some quotient t holds as polynomials
 -- AcceptedZeta e p n C x wire z t s a zeta   the zeta is one at which the point check accepts
@@ -15,7 +15,7 @@
 --
 -- The number e is 1 where the transcript is blinded, and 0 where it is not: wires have n + 2e coefficients, z n + 3e and t 3n - 3 + 9e.
 -- A cheat lays three wires, is drawn a pair, chooses z, is drawn an alpha, chooses t, is drawn a zeta. `AtMost K P` says that at most K things satisfy P,
--- `Exactly K P` that K do; `f_of` is F of the circuit, the public inputs, the wires and z. The counts themselves need less than a circuit: `sound` and `complete` below hold of any constraints.
+-- `Exactly K P` that K do; `f_of` is F of the circuit, the public inputs, the wires and z. The counts themselves need less than a circuit: `sound` and `complete` in proofs/Demand3 hold of any constraints.
 -- The theorems stand in proofs/Demand3.
 -- Assumes nothing.
 use Rattle.std.specs.Prelude.{◌≡◌, List, ℕ, ◌+◌, ◌*◌, ◌-◌, ◌/◌, ◌%◌, ◌<◌}

@@ -12,7 +12,7 @@
 -- five_values                          FiveValues holds of what the definitions give, for every admissible p and n, any constraints, and every witness and pair with no zero
 --                                      factor of any D(i) (reason 11 does not apply)
 -- five-laid                            and of what the prover lays, whatever alpha is
--- five_of_lem                              and of any property that says the same
+-- five_of_lem                          and of any property that says the same
 -- equally_many                         two properties of which it holds have equally many choices for any five elements
 -- equally_given                        so two fillings of one circuit, each with its public inputs, have; that they satisfy it is not needed
 --

@@ -3,15 +3,15 @@
 --
 -- Sheet, constraints, publics, witness     a sheet of document 01 as its numbers are lent, and what the definitions read in it
 -- gates, transcript_of, row_check, point_check, broken   the definitions at a sheet; broken: where 14, 9, 10 and 11 apply (l, n, 3n, n: nowhere)
--- seventeen, ninety_seven, largest      a valid sheet of four rows for each prime
--- unbound                              a sheet of prime 97 that reading refuses by 14
--- broken_row, broken_position, zero_row   sheets of prime 17 that are refused by 9, 10 and 11
--- largest_position, largest_zero         sheets of the largest prime that are refused by 10 and 11
--- table                                the cases of 17 and 97, which antt computes as they stand
--- root_2, root_4, inverse_is, ..       the roots and inverses of the largest prime, which it cannot compute by their definitions
+-- seventeen, ninety_seven, largest         a valid sheet of four rows for each prime
+-- unbound                                  a sheet of prime 97 that reading refuses by 14
+-- broken_row, broken_position, zero_row    sheets of prime 17 that are refused by 9, 10 and 11
+-- largest_position, largest_zero           sheets of the largest prime that are refused by 10 and 11
+-- table                                    the cases of 17 and 97, which antt computes as they stand
+-- root_2, root_4, inverse_is, ..           the roots and inverses of the largest prime, which it cannot compute by their definitions
 -- rows_1, .., rows-largest, z_largest_lem  z on its rows, one after the other, and z: each division has its inverse from there
--- largest_table                         the cases of the largest prime
--- further                              every case is right
+-- largest_table                            the cases of the largest prime
+-- further                                  every case is right
 --
 -- The theorems stand in proofs/Further.
 -- Assumes nothing.

@@ -1,8 +1,8 @@
 -- The layout of the prepared circuit and of the transcript: their parts, and that they are elements.
 --
--- prepared_part_lem           part s of the prepared circuit is polynomial s, for each of its polynomials
+-- prepared_part_lem       part s of the prepared circuit is polynomial s, for each of its polynomials
 -- prepared_elements       the prepared circuit has the length that is due, and is elements
--- wire_part_lem, z_part_lem, t_part_lem  the parts of a transcript
+-- wire_part_lem, z_part_lem, t_part_lem   the parts of a transcript
 -- proved_elements         so it is with the transcript that the prover lays
 -- lent_F                  F of the prepared circuit and of a transcript is F of their polynomials
 --

@@ -1,16 +1,16 @@
 -- The cases that document 01 marks ★ ("On the sheet above, and at its edges"), what its program prints, how often 11 applies, where 16 does, and what blinding makes of the sheet (document 02), as one table
 -- under one statement.
 --
--- circuit, publics, witness       the sheet of document 01: prime 17, two rows, no public inputs; beta, gamma, alpha, zeta are 1, 1, 2, 2
--- last_is11, row_is5-7-12          the witness with the last value 11, and with row 1 as 5, 7, 12
--- prove_answer p n                 the answer to `prove` over p and n rows, lent the sheet's numbers
+-- circuit, publics, witness         the sheet of document 01: prime 17, two rows, no public inputs; beta, gamma, alpha, zeta are 1, 1, 2, 2
+-- last_is11, row_is5-7-12           the witness with the last value 11, and with row 1 as 5, 7, 12
+-- prove_answer p n                  the answer to `prove` over p and n rows, lent the sheet's numbers
 -- z_worked, transcript_worked       z at beta 1, gamma 1; the transcript at alpha 2
 -- nine, z_blinded, t_blinded, transcript_blinded   nine numbers that blind; z, t and the transcript that they blind (document 02, request 9)
--- Value, Case                     a number, an inverse, numbers, numbers if there are any, an answer or a verdict; what a case is about, what the definitions make of it, what document 01 says
--- _&_                             proofs of the rows of a table, one after the other
--- table                           the cases
--- Worked                          the statement: every case is right, and where the contents disagree no z passes the row check
--- worked                          it holds
+-- Value, Case                       a number, an inverse, numbers, numbers if there are any, an answer or a verdict; what a case is about, what the definitions make of it, what document 01 says
+-- _&_                               proofs of the rows of a table, one after the other
+-- table                             the cases
+-- Worked                            the statement: every case is right, and where the contents disagree no z passes the row check
+-- worked                            it holds
 --
 -- The theorems stand in proofs/Worked.
 -- Assumes nothing.

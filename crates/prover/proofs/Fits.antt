@@ -3,7 +3,7 @@
 -- transcript_fits, spare_fits   a, b, c and z fit into the transcript, n words into the scratch
 -- scratch_fits, filling_fits   the scratch of preparing, and F, fit into the scratch
 -- prepared_fits, room_fits, laid_fits   the prepared circuit and the domain points fit into their arrays; a, b, c and z into the transcript
--- rest_long         the words behind a, b, c and z are as many as t has
+-- rest_long             the words behind a, b, c and z are as many as t has
 -- transcript_of_lem     a, b, c and z with the quotient behind them are the prover's transcript
 --
 -- Assumes nothing.

@@ -1,6 +1,6 @@
 -- What the inner functions ask of their buffers, and F as they speak of it.
 --
--- lent_f e       F of a lent circuit that is prepared, public inputs, and a, b, c, z as they are laid
+-- lent_f e      F of a lent circuit that is prepared, public inputs, and a, b, c, z as they are laid
 -- Ready e       e is 0 or 1, p and n are admissible; selectors, labels, public inputs, challenges and scratch are lent rightly
 -- Front e       the same of labels, witness, transcript and blinders; and no factor of any D(i) is zero
 -- Checked e     what a public call has checked

@@ -1,9 +1,9 @@
 -- What `prove` and `prove_blinded` promise: the number e is 1 for the latter, and 0 for `prove`, which is lent no blinders.
 --
 -- proved_from_with L e    the transcript that the prover lays for lent buffers, where there is a z; the challenges are beta, gamma, alpha in that order, and the
---                       witness is lent by the layout L
--- ProvesWith L e        refused: transcript and scratch as they came; accepted: there is a transcript, and it is laid, with zeros in the scratch
--- proved_from, Proves    the same by the layout of today
+--                         witness is lent by the layout L
+-- ProvesWith L e          refused: transcript and scratch as they came; accepted: there is a transcript, and it is laid, with zeros in the scratch
+-- proved_from, Proves     the same by the layout of today
 --
 -- Assumes nothing.
 use Rattle.std.specs.Prelude.{◌≡◌, cond, List, ℕ, get_or, replicate}

@@ -86,7 +86,7 @@ two = lent_public (2 ∷ [])
 abbrev bound_f : List ℕ
 bound_f = poly_f 17 2 (prepared_poly 17 2 bound) wire (interpolation 17 2 two) z 1 1 2
 
--- the gate of a row with q_l and q_c alone, where 4798 stands at a and 5798 is the public input
+-- the gate of a row with qL and qC alone, where 4798 stands at a and 5798 is the public input
 abbrev meter_gate : ℕ → ℕ → ℕ
 meter_gate l c =
     gate 2013265921 8 record { q_l = λ i. l; q_r = λ i. 0; q_o = λ i. 0; q_m = λ i. 0; q_c = λ i. c; label = λ k. k } (λ i. 5798) (λ k. 4798) 4

@@ -1,8 +1,8 @@
 -- What `check_rows` promises, in the terms of document 01.
 --
--- identity_of id     the identity that a failing row names: the gate; z = 1 at row 0; the step z(i) × N(i) = z(i+1) × D(i)
--- verdict_of v       the verdict that is handed over: every row holds, or the first identity that fails with its row
--- lent_z z           the row values of z, in a lent buffer
+-- identity_of id    the identity that a failing row names: the gate; z = 1 at row 0; the step z(i) × N(i) = z(i+1) × D(i)
+-- verdict_of v      the verdict that is handed over: every row holds, or the first identity that fails with its row
+-- lent_z z          the row values of z, in a lent buffer
 -- ChecksRowsWith L  what `check_rows` promises of its answer r, where the witness is lent by the layout L
 -- ChecksRows        the same by that of today
 --

@@ -1,9 +1,9 @@
 -- The reasons of a sheet as the functions test them, and what is known past them.
 --
--- table_circuit           the reasons of the circuit, 8 and 14, read off the table
--- table_numbers           the reasons of all its numbers, e lines (0 or 1) being there of blinders
+-- table_circuit          the reasons of the circuit, 8 and 14, read off the table
+-- table_numbers          the reasons of all its numbers, e lines (0 or 1) being there of blinders
 -- Opened s p n l at      what is known where 1 does not apply: p, n, l, and line 1 starts at `at`
--- prime_line s            1, 2 and 16: the reasons of a new sheet's first line up to that of its prime
+-- prime_line s           1, 2 and 16: the reasons of a new sheet's first line up to that of its prime
 -- Decides s reasons r t  what deciding by these reasons promises of its answer r and of the table t
 -- found                  p, n and l are those of the sheet, where none applies
 -- first_numbers, read_numbers   no reason of the first line has number 0, and none at all, where none of the lengths has

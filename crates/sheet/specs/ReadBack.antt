@@ -3,7 +3,7 @@
 --
 -- SheetBack            what is read off the text s
 -- sheet_back           THE THEOREM, for the text of the numbers
--- sheet_line            the numbers of line i of that text
+-- sheet_line           the numbers of line i of that text
 -- Admitted             what the reasons ask of the numbers: p and n are admissible on a sheet, selectors and labels are a circuit, elements are below p
 -- sheet_taken          a sheet that reads so, of at most 65,536 bytes, is accepted
 --

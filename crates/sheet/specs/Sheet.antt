@@ -1,46 +1,46 @@
 -- The sheet (document 01, "The sheet"): which bytes are one, and the numbers that stand on it. Lines count from 0 here.
 --
--- sheet_rows            the greatest number of rows on a sheet; the lent buffers have the lengths that so many rows need
--- challenge_count       the challenges on a sheet
--- drawn_count           the length of the buffer that challenges and blinders are laid in
--- label_field           the fields before the labels on a gate line: its selectors
--- gate_fields           the fields of a gate line: those, and three labels
+-- sheet_rows             the greatest number of rows on a sheet; the lent buffers have the lengths that so many rows need
+-- challenge_count        the challenges on a sheet
+-- drawn_count            the length of the buffer that challenges and blinders are laid in
+-- label_field            the fields before the labels on a gate line: its selectors
+-- gate_fields            the fields of a gate line: those, and three labels
 -- LINES
--- fields_due n l i      how many numbers line i has: 3 on the first, then those of n gate lines, n lines of 3, l of 1, one of the challenges, and one of the blinders
--- plain_lines n l       how many lines there are up to that of the challenges
--- lines_due e n l       how many lines there are, with e lines (0 or 1) of blinders
--- line_at s n l i       where line i starts
--- number_of s n l i j   number j of line i
+-- fields_due n l i       how many numbers line i has: 3 on the first, then those of n gate lines, n lines of 3, l of 1, one of the challenges, and one of the blinders
+-- plain_lines n l        how many lines there are up to that of the challenges
+-- lines_due e n l        how many lines there are, with e lines (0 or 1) of blinders
+-- line_at s n l i        where line i starts
+-- number_of s n l i j    number j of line i
 -- sheet_p, sheet_n, sheet_l   p, n and l: the numbers of the first line
--- is_blinded s n l      something stands behind the line of the challenges (document 02, request 9): it is the line of the blinders
--- sheet_blinded s n l   the same as a number: how many such lines the sheet has
--- is_bad s n l i        line i is missing or out of form
--- bad_from s n l i m    the lowest such line from line i on; m where there is none before line m
--- bad_line s n l        the lowest from line 1 on; the number of lines due where there is none
--- is_extra s n l        something stands behind the last line that is due
+-- is_blinded s n l       something stands behind the line of the challenges (document 02, request 9): it is the line of the blinders
+-- sheet_blinded s n l    the same as a number: how many such lines the sheet has
+-- is_bad s n l i         line i is missing or out of form
+-- bad_from s n l i m     the lowest such line from line i on; m where there is none before line m
+-- bad_line s n l         the lowest from line 1 on; the number of lines due where there is none
+-- is_extra s n l         something stands behind the last line that is due
 -- NUMBERS AS THEY ARE LENT
--- on_position s n l k   the wire value of position k
+-- on_position s n l k    the wire value of position k
 -- on_selectors, on_labels, on_witness_with L, on_publics, on_challenges, on_blinders   number k of each kind; the witness is lent by the layout L
--- blinders_on s n l     the blinders of the sheet: none where their line is absent
--- padded m f count     count numbers, and zeros behind them up to m
--- drawn_on s n l        challenges and blinders as they are laid in one buffer, zeros where the line of the latter is absent
+-- blinders_on s n l      the blinders of the sheet: none where their line is absent
+-- padded m f count       count numbers, and zeros behind them up to m
+-- drawn_on s n l         challenges and blinders as they are laid in one buffer, zeros where the line of the latter is absent
 -- REASONS
--- too_long s            the sheet has more than 65,536 bytes
+-- too_long s             the sheet has more than 65,536 bytes
 -- sheet_elements_with L s n l   the elements in the order of 7
--- bad_first s           1: the sheet is too long, or its first line is missing or out of form
--- first_reasons         of the first line: this, and those of p, n and l, which stand on it
--- line_reasons          of the lines behind it
--- sheet_due bytes       the lengths due, for a sheet of so many bytes
+-- bad_first s            1: the sheet is too long, or its first line is missing or out of form
+-- first_reasons          of the first line: this, and those of p, n and l, which stand on it
+-- line_reasons           of the lines behind it
+-- sheet_due bytes        the lengths due, for a sheet of so many bytes
 -- sheet_numbers_with L   of the elements, labels and public rows, as they are lent
 -- behind_reasons_with L  all reasons behind those of the first line; `lengths` are those of a call's lent buffers, which stand between the lines and the numbers
 -- read_reasons_with L s lengths   all reasons of a call that reads the sheet s
--- sheet_lengths         6 of `read`, for the lengths of the five lent buffers
+-- sheet_lengths          6 of `read`, for the lengths of the five lent buffers
 -- sheet_reasons_with L   all reasons of `read`
 -- new_reasons_with L s lengths, new_answer_with L s   for a call that takes s as a new sheet (document 02, request 7): 16 straight after 2; the answer of its own reasons,
---                      the buffers having the lengths due
+--                        the buffers having the lengths due
 -- BY THE LAYOUT OF TODAY
 -- on_witness, sheet_elements, sheet_numbers, behind_reasons, read_reasons, sheet_reasons, new_reasons, new_answer   the same, row by row
--- read_answer s         the answer of the sheet's own reasons: of reading it into buffers of the lengths due
+-- read_answer s          the answer of the sheet's own reasons: of reading it into buffers of the lengths due
 --
 -- Assumes nothing.
 use Rattle.std.specs.Prelude.{Bool, not, cond, ◌||◌, List, [], ◌∷◌, ◌++◌, ℕ, zero, suc, ◌+◌, ◌*◌, ◌-◌, ◌/◌, ◌%◌, eqb, leb, ltb, length, replicate}

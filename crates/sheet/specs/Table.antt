@@ -1,16 +1,16 @@
 -- The table of a sheet's numbers, which the reader fills before it lays them out, line after line.
 --
--- line_words            the words of a line, the first of which are its numbers: no line has more
--- table_lines           the lines: no sheet has more
--- table_length          the words of the table
--- table_place i j       where field j of line i stands
+-- line_words           the words of a line, the first of which are its numbers: no line has more
+-- table_lines          the lines: no sheet has more
+-- table_length         the words of the table
+-- table_place i j      where field j of line i stands
 -- column_block n line field count   a block of the table that is lent column after column: `count` numbers of n lines, from this line and this field on
 -- row_block width line count         one that is lent row by row: `count` numbers of lines of `width` fields, from this line on
 -- selectors_block, labels_block, witness_block, publics_block, challenges_block, blinders_block e   the blocks that are lent; e lines (0 or 1) are there of blinders
 -- place_in B k, in_table t B k      where number k of a block stands, and the number
 -- selectors_in, labels_in, witness_in, publics_in, challenges_in, blinders_in e   number k of each block that is lent
 -- table_elements e n l t   the elements in the order of reason 7
--- table_drawn e n l t   challenges and blinders, as they are laid in one buffer
+-- table_drawn e n l t  challenges and blinders, as they are laid in one buffer
 -- Held s n l m t       the table has the numbers of the lines from 1 to m - 1 of the sheet s
 -- HeldAll s n l t      it has those of all lines
 -- Tabled s n l blinded t   it has, and `blinded` says whether a line of blinders is there

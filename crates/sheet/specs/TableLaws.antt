@@ -1,11 +1,11 @@
 -- A table that holds all lines of a sheet has its numbers, as they are lent.
 --
--- on_position_lem     the wire value of a column and a row, in the witness as it is lent, is the field of that column on the line of that row
+-- on_position_lem   the wire value of a column and a row, in the witness as it is lent, is the field of that column on the line of that row
 -- selectors_same, labels_same, witness_same, publics_same, challenges_same, blinders_same   number k of each kind
 -- elements_same, selectors_list_same, labels_list_same   the elements end to end, the selectors and the labels
--- drawn_same      challenges and blinders, as they are laid in one buffer
--- elements_long   how many elements the table has
--- unbound-table   selector s of row i is word s of line i + 1, so the row of a line that is no public row is the one that 14 names
+-- drawn_same        challenges and blinders, as they are laid in one buffer
+-- elements_long     how many elements the table has
+-- unbound-table     selector s of row i is word s of line i + 1, so the row of a line that is no public row is the one that 14 names
 --
 -- Assumes nothing.
 use Rattle.std.specs.Prelude.{◌≡◌, refl, List, ◌++◌, length, get_or, replicate}

@@ -105,7 +105,7 @@ pub record Worked : Type 0 where
   pub high : read_answer (with 51 (49 ∷ [])) ≡ record { number = 7; detail = 15 }
   pub high_b_lem : read_answer (with 43 (50 ∷ 49 ∷ [])) ≡ record { number = 7; detail = 11 }
   pub high_label : read_answer (with 39 (49 ∷ [])) ≡ record { number = 8; detail = 5 }
-  -- row 0 is a public row; q_l is 0, q_r, q_o, q_m, q_c are 1 in turn; row 1 is none, and l is 2
+  -- row 0 is a public row; qL is 0, qR, qO, qM, qC are 1 in turn; row 1 is none, and l is 2
   pub public_row : read_answer public_bytes ≡ record { number = 0; detail = 0 }
   pub q_l_none : read_answer (changed 7 48) ≡ record { number = 14; detail = 0 }
   pub q_r_one : read_answer (changed 9 49) ≡ record { number = 14; detail = 0 }

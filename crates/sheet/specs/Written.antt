@@ -3,7 +3,7 @@
 --
 -- column n xs row c   the number in a column and row of a buffer that is lent column after column
 -- circuit_line, witness_line_with L, public_line   the numbers of one line; the witness is lent by the layout L
--- sheet_text_with L     the bytes of the sheet
+-- sheet_text_with L   the bytes of the sheet
 -- witness_line, sheet_text   the same by the layout of today
 -- Small xs            every number is below 2^32
 -- Right               the numbers are below 2^32, and there are as many as are lent for n rows and l public inputs

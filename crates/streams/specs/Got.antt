@@ -1,7 +1,7 @@
 -- What the contracts of `streams` cite.
 --
 -- bytes_of g     how many bytes reading gave; none where it failed
--- bytes_got     where it gave n bytes, so many were counted
+-- bytes_got      where it gave n bytes, so many were counted
 --
 -- Assumes nothing.
 use Rattle.std.specs.Prelude.{◌≡◌, List, ℕ}

@@ -1,6 +1,6 @@
 -- Laws of reading a line: after j fields in form, the search for one out of form goes on from field j.
 --
--- field_number s at j        the number of field j of the line at `at`
+-- field_number s at j       the number of field j of the line at `at`
 -- Reading s at o n out j    the loop has read j fields, the next one starts at n, and the slice is `out`, o being what it was
 -- line_stop, line_end       field j is out of form: so is the line; all fields are in form: so is the line
 -- read_none, read_more      the loop: before, a turn

@@ -1,6 +1,6 @@
 -- Text that is put into a buffer, run after run.
 --
--- field_bytes                  the bytes of a number on a line, with that which stands before or behind it: at most ten digits, and one
+-- field_bytes                 the bytes of a number on a line, with that which stands before or behind it: at most ten digits, and one
 -- Puts at bytes out r out'    the bytes stand behind the first `at` bytes of the buffer, and r is where the next byte goes; what stands from r
 --                             on is not told
 -- puts_none, puts_byte, puts_both   no bytes; one byte; one run and then another

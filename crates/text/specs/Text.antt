@@ -4,15 +4,15 @@
 -- is_digit b          byte b is a digit
 -- digits_end s at     where the run of digits that starts at `at` ends
 -- value_of s at k     the number that k digits from `at` on write, in decimal
--- is_number_at s at    a number stands at `at`: at least one digit, no leading zero, below 2^32
+-- is_number_at s at   a number stands at `at`: at least one digit, no leading zero, below 2^32
 -- number_at s at      that number
 -- field_at s at j     where field j of a line that starts at `at` starts: field 0 there, each next one past the byte behind the former's digits
--- closing k j        the byte behind field j of a line of k: byte 10 behind the last, else a comma
--- is_field_at          field j of a line of k is a number with its closing byte
--- is_line_at s at k    a line of k numbers starts at `at`
+-- closing k j         the byte behind field j of a line of k: byte 10 behind the last, else a comma
+-- is_field_at         field j of a line of k is a number with its closing byte
+-- is_line_at s at k   a line of k numbers starts at `at`
 -- WRITING
 -- decimal_of most v   the digits of v, at most `most` of them
--- decimal v          v in decimal, without leading zeros, for v below 2^32
+-- decimal v           v in decimal, without leading zeros, for v below 2^32
 -- fields_text vs      a comma and the number in decimal, for each of vs
 -- line_text word vs   a line that begins with a word: the word, its fields, and byte 10
 -- fields_of, line_of vs   the numbers vs with commas between them; a line of them, with byte 10 behind

@@ -7,7 +7,7 @@
 -- text_as_before       the text of a sheet
 -- JOINED SHEETS
 -- ReadsBack L          what is laid by the layout L is read back
--- wires_on s            the wire values on the sheet s, by positions
+-- wires_on s           the wire values on the sheet s, by positions
 -- joined_as_before     the joined sheet, of two sheets that can be joined
 --
 -- Assumes nothing.

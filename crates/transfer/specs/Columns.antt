@@ -4,11 +4,11 @@
 --
 -- by_columns               the layout of then: the wire value of position k stands at place k
 -- ChecksRowsByColumns, ProvesByColumns e, LosesGammasByColumns   the promises of `check_rows`, of `prove` (e is 0) and `prove_blinded` (e is 1), and of `lost_gammas`,
---                         lent such a witness; their lists of reasons are those of today, of the numbers as they were lent
+--                          lent such a witness; their lists of reasons are those of today, of the numbers as they were lent
 -- columns_read s n l       the witness that reading the sheet s laid
 -- ReadsByColumns, DepositsByColumns, JoinsByColumns   the promises of `read`, `deposit` and `join`, the elements of 7 being counted as they were lent
--- AsBefore a b            two answers have one number, and one detail unless the number is 7
--- RefusesElement t        the text t is the line of a refusal with 7
+-- AsBefore a b             two answers have one number, and one detail unless the number is 7
+-- RefusesElement t         the text t is the line of a refusal with 7
 --
 -- Assumes nothing.
 use Rattle.std.specs.Prelude.{◌≡◌, List, ℕ}

@@ -1,8 +1,8 @@
 -- Document 01's worked sheet, as it was lent and as it is lent; and four rows, whose two layouts no transfer exchanges by itself.
 --
 -- columns, rows    the wire values of the sheet in both layouts
--- high_b            those in columns, with 17 at b of row 0
--- high_nine         the sheet with a line of blinders, of which the last is 99
+-- high_b           those in columns, with 17 at b of row 0
+-- high_nine        the sheet with a line of blinders, of which the last is 99
 -- twelve           the numbers 0 to 11
 -- Worked, worked   what the definitions make of them, and their answers; that they are so
 --

@@ -42,7 +42,10 @@ returns-then-transcript-transcript_length c =
 pub part-requires : goal.part-requires
 part-requires c =
     let n = any_rows_lem _ (rows-known (goal.at.part-requires c).Else-not-any_rows) in
-    record { e_bound = (c.blinded_by-e.ensures.1, n.least, n.most); prepared_len = (prepared-known (goal.at.part-requires c).Else-prepared-prepared_length, transcript-known c) }
+    record {
+      e_bound = (c.blinded_by-e.ensures.1, n.least, n.most);
+      prepared_len = (prepared-known (goal.at.part-requires c).Else-prepared-prepared_length, transcript-known c);
+    }
 
 pub returns : goal.returns
 returns c =

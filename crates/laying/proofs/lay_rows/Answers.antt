@@ -21,7 +21,10 @@ slice_bounds-lay_wires-end-2 c = sym (length-take-le _ _ (fits (goal.at.slice_bo
 
 pub lay_wires-requires : goal.lay_wires-requires
 lay_wires-requires c =
-    record { points = (c.requires.ready.0.points, c.requires.ready.0.elements, c.requires.ready.2); out_len = (length-take-le _ _ (fits (goal.at.lay_wires-requires c).After-z_start-k) ∙ c.z_start-k.ensures, c.requires.out_len.1) }
+    record {
+      points = (c.requires.ready.0.points, c.requires.ready.0.elements, c.requires.ready.2);
+      out_len = (length-take-le _ _ (fits (goal.at.lay_wires-requires c).After-z_start-k) ∙ c.z_start-k.ensures, c.requires.out_len.1);
+    }
 
 pub lay_z-requires : goal.lay_z-requires
 lay_z-requires c =

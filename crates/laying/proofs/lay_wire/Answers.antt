@@ -24,7 +24,10 @@ slice_bounds-lay_column-end-2 c = sym (length-take-le _ _ (fits (goal.at.slice_b
 
 pub lay_column-requires : goal.lay_column-requires
 lay_column-requires c =
-    record { points = (c.requires.points.0, c.requires.points.1, c.requires.points.2); out_len = (length-take-le _ _ (fits (goal.at.lay_column-requires c).Start), c.requires.out_len.1) }
+    record {
+      points = (c.requires.points.0, c.requires.points.1, c.requires.points.2);
+      out_len = (length-take-le _ _ (fits (goal.at.lay_column-requires c).Start), c.requires.out_len.1);
+    }
 
 pub blind-requires : goal.blind-requires
 blind-requires c =

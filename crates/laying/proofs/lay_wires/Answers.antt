@@ -45,7 +45,10 @@ slice_bounds-lay_wire-end c = omega (arith, fits c)
 
 pub lay_wire-requires : goal.lay_wire-requires
 lay_wire-requires c =
-    record { points = (c.requires.points.0, c.requires.points.1, c.loop-column-test.true, c.requires.points.2); out_len = (long (goal.at.lay_wire-requires c).In-loop-column, c.loop-column.invariant.4 ∙ c.requires.out_len.1) }
+    record {
+      points = (c.requires.points.0, c.requires.points.1, c.loop-column-test.true, c.requires.points.2);
+      out_len = (long (goal.at.lay_wire-requires c).In-loop-column, c.loop-column.invariant.4 ∙ c.requires.out_len.1);
+    }
 
 pub loop-column-preserved : goal.loop-column-preserved
 loop-column-preserved c = (

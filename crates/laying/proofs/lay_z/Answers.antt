@@ -27,7 +27,10 @@ slice_bounds-lay_grand-end-2 c = sym (length-take-le _ _ (fits (goal.at.slice_bo
 
 pub lay_grand-requires : goal.lay_grand-requires
 lay_grand-requires c =
-    record { ready = (c.requires.ready.0, c.requires.ready.1); out_len = (length-take-le _ _ (fits (goal.at.lay_grand-requires c).Start), c.requires.out_len.1) }
+    record {
+      ready = (c.requires.ready.0, c.requires.ready.1);
+      out_len = (length-take-le _ _ (fits (goal.at.lay_grand-requires c).Start), c.requires.out_len.1);
+    }
 
 pub blind-requires : goal.blind-requires
 blind-requires c =

@@ -25,14 +25,23 @@ slice_bounds-agrees-end-2 c =
 
 pub agrees-same-requires : goal.agrees-same-requires
 agrees-same-requires c =
-    record { checked = c.requires.checked; room_len = length-take-le _ _ (fits (goal.at.agrees-same-requires c).After-quotient_length-long) ∙ is_long (goal.at.agrees-same-requires c).After-quotient_length-long }
+    record {
+      checked = c.requires.checked;
+      room_len = length-take-le _ _ (fits (goal.at.agrees-same-requires c).After-quotient_length-long) ∙ is_long (goal.at.agrees-same-requires c).After-quotient_length-long;
+    }
 
 pub returns-then-same : goal.returns-then-same
 returns-then-same c =
     let a = c.args in
-    record { value = judged a.p a.n a.prepared.now a.transcript.now a.list.now a.evaluations.now a.opening.now a.challenges.now true (sym c.if-same.true ∙ c.agrees-same.ensures); scratch_after = c.clear.ensures ∙ ap (λ (m : ℕ). replicate m 0) (length_front c.args.scratch.now c.agrees-same.new.room c.quotient_length-long.result c.agrees-same.auto.room ∙ c.requires.scratch_len) }
+    record {
+      value = judged a.p a.n a.prepared.now a.transcript.now a.list.now a.evaluations.now a.opening.now a.challenges.now true (sym c.if-same.true ∙ c.agrees-same.ensures);
+      scratch_after = c.clear.ensures ∙ ap (λ (m : ℕ). replicate m 0) (length_front c.args.scratch.now c.agrees-same.new.room c.quotient_length-long.result c.agrees-same.auto.room ∙ c.requires.scratch_len);
+    }
 
 pub returns : goal.returns
 returns c =
     let a = c.args in
-    record { value = judged a.p a.n a.prepared.now a.transcript.now a.list.now a.evaluations.now a.opening.now a.challenges.now false (sym c.if-same.false ∙ c.agrees-same.ensures); scratch_after = c.clear.ensures ∙ ap (λ (m : ℕ). replicate m 0) (length_front c.args.scratch.now c.agrees-same.new.room c.quotient_length-long.result c.agrees-same.auto.room ∙ c.requires.scratch_len) }
+    record {
+      value = judged a.p a.n a.prepared.now a.transcript.now a.list.now a.evaluations.now a.opening.now a.challenges.now false (sym c.if-same.false ∙ c.agrees-same.ensures);
+      scratch_after = c.clear.ensures ∙ ap (λ (m : ℕ). replicate m 0) (length_front c.args.scratch.now c.agrees-same.new.room c.quotient_length-long.result c.agrees-same.auto.room ∙ c.requires.scratch_len);
+    }

@@ -11,8 +11,14 @@ equal_at-requires c =
 
 pub returns-then-equal_at : goal.returns-then-equal_at
 returns-then-equal_at c =
-    record { value = accepts c.blinded_by-e.result c.args.p c.args.n c.args.publics.now c.args.prepared.now c.args.transcript.now c.args.challenges.now c.blinded_by-e.ensures.0 (sym (c.equal_at.ensures _ c.public_at-x.ensures) ∙ c.if-equal_at.true); scratch_after = c.clear.ensures ∙ ap (λ (m : ℕ). replicate m 0) (c.public_at-x.auto.scratch ∙ c.requires.scratch_length_lem) }
+    record {
+      value = accepts c.blinded_by-e.result c.args.p c.args.n c.args.publics.now c.args.prepared.now c.args.transcript.now c.args.challenges.now c.blinded_by-e.ensures.0 (sym (c.equal_at.ensures _ c.public_at-x.ensures) ∙ c.if-equal_at.true);
+      scratch_after = c.clear.ensures ∙ ap (λ (m : ℕ). replicate m 0) (c.public_at-x.auto.scratch ∙ c.requires.scratch_length_lem);
+    }
 
 pub returns : goal.returns
 returns c =
-    record { value = rejects c.blinded_by-e.result c.args.p c.args.n c.args.publics.now c.args.prepared.now c.args.transcript.now c.args.challenges.now c.blinded_by-e.ensures.0 (sym (c.equal_at.ensures _ c.public_at-x.ensures) ∙ c.if-equal_at.false); scratch_after = c.clear.ensures ∙ ap (λ (m : ℕ). replicate m 0) (c.public_at-x.auto.scratch ∙ c.requires.scratch_length_lem) }
+    record {
+      value = rejects c.blinded_by-e.result c.args.p c.args.n c.args.publics.now c.args.prepared.now c.args.transcript.now c.args.challenges.now c.blinded_by-e.ensures.0 (sym (c.equal_at.ensures _ c.public_at-x.ensures) ∙ c.if-equal_at.false);
+      scratch_after = c.clear.ensures ∙ ap (λ (m : ℕ). replicate m 0) (c.public_at-x.auto.scratch ∙ c.requires.scratch_length_lem);
+    }

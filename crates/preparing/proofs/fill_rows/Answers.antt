@@ -15,7 +15,10 @@ copy-requires c = sym (length-take-le _ _ (omega arith))
 
 pub wired_tags-requires : goal.wired_tags-requires
 wired_tags-requires c =
-    record { points = c.requires.points; labels = (labels_of _ c.args.labels.now c.requires.selectors_len.1 c.requires.points.admissible, c.requires.selectors_len.1.long, rest_length (length c.args.selectors.now) c.args.out.now c.copy.new.to (omega arith) c.copy.auto.to ∙ omega arith) }
+    record {
+      points = c.requires.points;
+      labels = (labels_of _ c.args.labels.now c.requires.selectors_len.1 c.requires.points.admissible, c.requires.selectors_len.1.long, rest_length (length c.args.selectors.now) c.args.out.now c.copy.new.to (omega arith) c.copy.auto.to ∙ omega arith);
+    }
 
 pub returns : goal.returns
 returns c =

@@ -42,7 +42,10 @@ slice_bounds-lay-end c =
 
 pub lay-answer-requires : goal.lay-answer-requires
 lay-answer-requires c =
-    record { e_bound = (c.requires.blinded, c.requires.unblinded); n_bound = (c.requires.few, omega (arith, c.requires.challenges_right.long), length-take-le _ _ (fits (goal.at.lay-answer-requires c).After-transcript_room-transcript) ∙ c.transcript_length-end.ensures) }
+    record {
+      e_bound = (c.requires.blinded, c.requires.unblinded);
+      n_bound = (c.requires.few, omega (arith, c.requires.challenges_right.long), length-take-le _ _ (fits (goal.at.lay-answer-requires c).After-transcript_room-transcript) ∙ c.transcript_length-end.ensures);
+    }
 
 pub slice_bounds-transcript-end-then-number-eq0 : goal.slice_bounds-transcript-end-then-number-eq0
 slice_bounds-transcript-end-then-number-eq0 c = still-fits (goal.at.slice_bounds-transcript-end-then-number-eq0 c).After-lay-answer

@@ -7,4 +7,7 @@ lowest-requires c = (c.requires.0, omega (arith, c.requires.0.few, c.positions_r
 
 pub follow-requires : goal.follow-requires
 follow-requires c =
-    record { labels = (c.requires.0, omega (arith, c.requires.0.few, c.lowest.auto.slots, c.positions_room-slots.ensures), c.requires.1); ahead = c.lowest.ensures }
+    record {
+      labels = (c.requires.0, omega (arith, c.requires.0.few, c.lowest.auto.slots, c.positions_room-slots.ensures), c.requires.1);
+      ahead = c.lowest.ensures;
+    }

@@ -37,7 +37,10 @@ slice_bounds-public_polynomial-end-3 c = sym (length-take-le _ _ c.requires.n_in
 
 pub public_polynomial-requires : goal.public_polynomial-requires
 public_polynomial-requires c =
-    record { lent_publics = c.requires.lent_publics; xs_len = (length-take-le _ _ (fits (goal.at.public_polynomial-requires c).After-rows_room-xs), length-take-le _ _ c.requires.n_in_bounds) }
+    record {
+      lent_publics = c.requires.lent_publics;
+      xs_len = (length-take-le _ _ (fits (goal.at.public_polynomial-requires c).After-rows_room-xs), length-take-le _ _ c.requires.n_in_bounds);
+    }
 
 pub slice_bounds-xs-end-2 : goal.slice_bounds-xs-end-2
 slice_bounds-xs-end-2 c = fits-still (goal.at.slice_bounds-xs-end-2 c).After-public_polynomial

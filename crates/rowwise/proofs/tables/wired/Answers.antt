@@ -34,7 +34,10 @@ slice_bounds-wired_tags-end-2 c =
 
 pub wired_tags-requires : goal.wired_tags-requires
 wired_tags-requires c =
-    record { points = record { admissible = c.requires.0; points = c.domain_points-powers.ensures.1 }; labels = (c.requires.1, c.requires.2, length-take-le _ _ (tags-fit (goal.at.wired_tags-requires c).After-domain_points-powers)) }
+    record {
+      points = record { admissible = c.requires.0; points = c.domain_points-powers.ensures.1 };
+      labels = (c.requires.1, c.requires.2, length-take-le _ _ (tags-fit (goal.at.wired_tags-requires c).After-domain_points-powers));
+    }
 
 pub returns : goal.returns
 returns c =

@@ -27,13 +27,19 @@ slice_bounds-lay-end-2 c = sym (front (goal.at.slice_bounds-lay-end-2 c).Start)
 pub lay-requires : goal.lay-requires
 lay-requires c =
     let block = c.challenges.ensures in
-    record { fits = challenges_fit _ _ _ c.requires.0 block; count_in_bounds = count_room block (omega (arith, front (goal.at.lay-requires c).Start)) }
+    record {
+      fits = challenges_fit _ _ _ c.requires.0 block;
+      count_in_bounds = count_room block (omega (arith, front (goal.at.lay-requires c).Start));
+    }
 
 pub lay-requires-2 : goal.lay-requires-2
 lay-requires-2 c =
     let block = c.blinders.ensures in
     let room = rest_length challenge_count c.args.out.now c.lay.new.out (fits (goal.at.lay-requires-2 c).Start) c.lay.auto.out in
-    record { fits = blinders_fit _ _ _ c.requires.0 c.args.e c.requires.1 block; count_in_bounds = count_room block (omega (arith, room, c.requires.1, c.requires.2)) }
+    record {
+      fits = blinders_fit _ _ _ c.requires.0 c.args.e c.requires.1 block;
+      count_in_bounds = count_room block (omega (arith, room, c.requires.1, c.requires.2));
+    }
 
 pub returns : goal.returns
 returns c =

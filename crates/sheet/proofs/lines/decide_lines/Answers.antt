@@ -11,7 +11,10 @@ pub returns-then-bad-due : goal.returns-then-bad-due
 returns-then-bad-due c =
     let below = c.if-bad-due.true in
     let e = c.out_of_form.ensures in
-    record { answer_value = e ∙ lines_bad c.args.s.now c.args.n c.args.l _ (front_bad c.args.s.now c.args.n c.args.l _ c.read_lines-found.ensures.bad_value below) (omega (arith, below)); tabled = λ u. absurd (omega (arith, ap (λ (a : Answer). a.number) e)) }
+    record {
+      answer_value = e ∙ lines_bad c.args.s.now c.args.n c.args.l _ (front_bad c.args.s.now c.args.n c.args.l _ c.read_lines-found.ensures.bad_value below) (omega (arith, below));
+      tabled = λ u. absurd (omega (arith, ap (λ (a : Answer). a.number) e));
+    }
 
 pub decide_rest-requires : goal.decide_rest-requires
 decide_rest-requires c =

@@ -41,7 +41,10 @@ out_of_form-requires c =
 pub returns-then-bad-due : goal.returns-then-bad-due
 returns-then-bad-due c =
     let e = c.out_of_form.ensures in
-    record { answer_value = e ∙ lines_bad c.args.s.now c.args.n c.args.l _ (stopped (goal.at.returns-then-bad-due c).After-read_lines-found) (omega (arith, lines (goal.at.returns-then-bad-due c).After-blinder_lines, c.if-bad-due.true)); tabled = λ u. absurd (omega (arith, ap (λ (a : Answer). a.number) e)) }
+    record {
+      answer_value = e ∙ lines_bad c.args.s.now c.args.n c.args.l _ (stopped (goal.at.returns-then-bad-due c).After-read_lines-found) (omega (arith, lines (goal.at.returns-then-bad-due c).After-blinder_lines, c.if-bad-due.true));
+      tabled = λ u. absurd (omega (arith, ap (λ (a : Answer). a.number) e));
+    }
 
 pub out_of_form-requires-then-found-s : goal.out_of_form-requires-then-found-s
 out_of_form-requires-then-found-s c =
@@ -52,9 +55,16 @@ returns-then-found-s c =
     let left = c.if-bad-due.false in
     let got = c.read_lines-found.ensures.next_value (omega (arith, low (goal.at.returns-then-found-s c).After-read_lines-found, left)) in
     let e = c.out_of_form-then-found-s.ensures in
-    record { answer_value = e ∙ lines_extra c.args.s.now c.args.n c.args.l _ (stopped (goal.at.returns-then-found-s c).After-read_lines-found) (omega (arith, lines (goal.at.returns-then-found-s c).After-blinder_lines, left)) (rw (← lines (goal.at.returns-then-found-s c).After-blinder_lines) (omega (arith, got.0, c.if-found-s.true))); tabled = λ u. absurd (omega (arith, ap (λ (a : Answer). a.number) e)) }
+    record {
+      answer_value = e ∙ lines_extra c.args.s.now c.args.n c.args.l _ (stopped (goal.at.returns-then-found-s c).After-read_lines-found) (omega (arith, lines (goal.at.returns-then-found-s c).After-blinder_lines, left)) (rw (← lines (goal.at.returns-then-found-s c).After-blinder_lines) (omega (arith, got.0, c.if-found-s.true)));
+      tabled = λ u. absurd (omega (arith, ap (λ (a : Answer). a.number) e));
+    }
 
 pub returns : goal.returns
 returns c =
     let left = c.if-bad-due.false in
-    let got = c.read_lines-found.ensures.next_value (omega (arith, low (goal.at.returns c).After-read_lines-found, left)) in record { answer_value = c.accepted.ensures ∙ lines_right c.args.s.now c.args.n c.args.l _ (stopped (goal.at.returns c).After-read_lines-found) (omega (arith, lines (goal.at.returns c).After-blinder_lines, left)) (rw (← lines (goal.at.returns c).After-blinder_lines) (omega (arith, got.0, c.if-found-s.false))); tabled = λ u. record { blinded_is = blinded_at c.args.s.now c.args.n c.args.l _ _ c.requires.0.starts refl; held = rw (← lines (goal.at.returns c).After-blinder_lines) got.2 } }
+    let got = c.read_lines-found.ensures.next_value (omega (arith, low (goal.at.returns c).After-read_lines-found, left)) in
+    record {
+      answer_value = c.accepted.ensures ∙ lines_right c.args.s.now c.args.n c.args.l _ (stopped (goal.at.returns c).After-read_lines-found) (omega (arith, lines (goal.at.returns c).After-blinder_lines, left)) (rw (← lines (goal.at.returns c).After-blinder_lines) (omega (arith, got.0, c.if-found-s.false)));
+      tabled = λ u. record { blinded_is = blinded_at c.args.s.now c.args.n c.args.l _ _ c.requires.0.starts refl; held = rw (← lines (goal.at.returns c).After-blinder_lines) got.2 };
+    }

@@ -71,7 +71,10 @@ shape_of-table-then-not-line c = kept (goal.at.shape_of-table-then-not-line c).A
 pub returns-then-not-line : goal.returns-then-not-line
 returns-then-not-line c =
     let is = line_is _ _ _ _ _ _ _ c.line-line.ensures.ok_value c.loop-i.invariant.2 (long (goal.at.returns-then-not-line c).After-table_place-to ∙ c.fields_due-k.ensures) in
-    record { bad_value = sym (c.loop-i.invariant.4 ∙ first_stop _ _ _ c.loop-i-test.true (ap not (sym is) ∙ c.if-not-line.true)); next_value = λ u. absurd (omega arith) }
+    record {
+      bad_value = sym (c.loop-i.invariant.4 ∙ first_stop _ _ _ c.loop-i-test.true (ap not (sym is) ∙ c.if-not-line.true));
+      next_value = λ u. absurd (omega arith);
+    }
 
 pub loop-i-preserved : goal.loop-i-preserved
 loop-i-preserved c =

@@ -31,7 +31,10 @@ decide_lines-lines-requires c = c.requires.0
 
 pub returns-then-number-ne0 : goal.returns-then-number-ne0
 returns-then-number-ne0 c =
-    record { answer_value = refused_first (line_reasons c.args.s.now c.args.n c.args.l) ((bad_lengths c.args.long.now c.args.due.now ∷ []) ++ (sheet_numbers c.args.s.now c.args.p c.args.n c.args.l)) (omega arith, tt) _ c.decide_lines-lines.ensures.answer_value c.if-number-ne0.true; tabled = λ u. absurd (c.if-number-ne0.true u) }
+    record {
+      answer_value = refused_first (line_reasons c.args.s.now c.args.n c.args.l) ((bad_lengths c.args.long.now c.args.due.now ∷ []) ++ (sheet_numbers c.args.s.now c.args.p c.args.n c.args.l)) (omega arith, tt) _ c.decide_lines-lines.ensures.answer_value c.if-number-ne0.true;
+      tabled = λ u. absurd (c.if-number-ne0.true u);
+    }
 
 pub returns-then-number-ne0-2 : goal.returns-then-number-ne0-2
 returns-then-number-ne0-2 c =
