@@ -1,10 +1,10 @@
 -- Laws of reading: a run of digits and its value capped at 2^32, against the definitions.
 --
 -- stands_past, stands_inside   a byte that is not 0 stands nowhere past the text's end: where it stands, the text goes on
--- end_low, end_high  a run of digits ends no earlier than it starts, and within the text
--- in_form_is        the tests of a number, on the capped value, are those of the definition
--- in_form_small     where they hold, the capped value is below 2^32
--- in_form_value     and it is the number
+-- end_low, end_high            a run of digits ends no earlier than it starts, and within the text
+-- in_form_is                   the tests of a number, on the capped value, are those of the definition
+-- in_form_small                where they hold, the capped value is below 2^32
+-- in_form_value                and it is the number
 --
 -- Assumes nothing.
 use mathlib.Core.Path.{◌≡◌, sym, ap, ◌∙◌}
