@@ -7,17 +7,23 @@
 -- first_le        it is at most n
 -- none_of         where it is n, none passes
 -- first_same      what is first is so once
+-- found           what no lower number passes, and what passes unless it is n, is the first one
 -- first_ext       tests that agree below n have one first number
 -- both_false, one_true   a test that is the disjunction of two: it fails where both fail; where it passes, one passes
+-- first_position  what the library's search of a list gives, the list's length where nothing passes, is `first` of its elements
 -- first_stop, first_skip, first_end   the loop: the test passes, it fails, there is nothing left
 --
 -- Assumes nothing.
-use Rattle.std.specs.Prelude.{◌≡◌, refl, ◌⊎◌, Bool, true, false, ◌||◌}
+use Rattle.std.specs.Prelude.{◌≡◌, refl, ◌⊎◌, Bool, true, false, ◌||◌, List, length, get_or, ltb, cond, Some, None}
+use Rattle.std.specs.List.{position, position_or_len}
+use Rattle.std.specs.Option.{unwrap_or}
 use Rattle.std.proofs.Common.{sym, ap, ◌∙◌, inl, inr, true≢false}
+use borrow.Author.Tests.{ltb-false}
 use Prim.Native.Nat.{ℕ, zero, suc, ◌+◌, ◌-◌, ◌≤◌, ◌<◌}
 use Rattle.std.proofs.Math.Decide.{ℕ_discrete, dec_lt}
 use Rattle.std.proofs.Math.Numerals.{add-one}
 use native.Mathlib.Omega.{arith}
+use Rattle.std.proofs.lemmas.List.Sums.{position_or_len_is}
 use Rattle.algebra.specs.Modular.{first}
 
 pub record First (test : ℕ → Bool) (start count r : ℕ) : Type 0 where
@@ -114,3 +120,22 @@ module _ (test : ℕ → Bool) (n i : ℕ) where
   pub first_end : n ≤ i → first test i (n - i) ≡ i
   unfolding first
   first_end h = let s : n - i ≡ 0 = omega arith in rw s
+
+pub found : (test : ℕ → Bool) (n r : ℕ) → r ≤ n → ((k : ℕ) → k < r → test k ≡ false) → (r < n → test r ≡ true) → r ≡ first test 0 n
+found test n r l none hit =
+    first_same record { low = omega arith; high = omega arith; none = λ j l h. none j h; hit = λ h. hit (omega arith) } (first_is test 0 n)
+
+pub first_position : (test : ℕ → Bool) (xs : List ℕ) → unwrap_or (position test xs) (length xs) ≡ first (λ k. test (get_or xs k 0)) 0 (length xs)
+first_position test xs =
+    let f = first_is (λ k. test (get_or xs k 0)) 0 (length xs) in
+    let e : position_or_len test xs ≡ first (λ k. test (get_or xs k 0)) 0 (length xs) =
+    position_or_len_is test xs (first (λ k. test (get_or xs k 0)) 0 (length xs)) 0 (first_le _ _) (λ k l. f.none k (omega arith) l)
+    (λ h. f.hit (omega arith))
+    in
+    let l : position_or_len test xs ≤ length xs = rw e (first_le _ _) in
+    go l (ltb (position_or_len test xs) (length xs)) refl ∙ e
+  where
+    go : position_or_len test xs ≤ length xs → (b : Bool) → ltb (position_or_len test xs) (length xs) ≡ b
+        → unwrap_or (cond b (Some (position_or_len test xs)) None) (length xs) ≡ position_or_len test xs
+    go l true e = refl
+    go l false e = omega (arith, ltb-false)

@@ -9,6 +9,7 @@
 -- all_get_d, all_of                         every element, by index
 -- all_append, all_left, all_right           every element of two lists end to end, there and back
 -- wrote_none, wrote_more, wrote_all         the loop: before, a turn, after
+-- filled                                    the loop by its words: each word below i is f of its place, and i is past the last
 -- unread                                    the word that a turn is about to write is still what it was
 --
 -- A loop that writes from the end down: where the words from i on are written, `FromOn f i o` says so of the slice o.
@@ -125,6 +126,9 @@ pub wrote_all : (f : ℕ → ℕ) (i : ℕ) (o₀ o : List ℕ) → length o₀ 
     → o ≡ tab f (length o₀)
 wrote_all f i o₀ o h k e =
     let q : i ≡ length o₀ = le_antisymm k h in e ∙ rw (q, drop-length o₀) (append-nil (tab f (length o₀)))
+
+pub filled : (f : ℕ → ℕ) {o : List ℕ} {i n : ℕ} → length o ≡ n → n ≤ i → ((k : ℕ) → k < i → get_or o k 0 ≡ f k) → o ≡ tab f n
+filled f {o} {i} {n} e l h = ext_get_or 0 _ _ (e ∙ sym (length-tab f n)) (λ k m. h k (omega arith) ∙ sym (get_or-tab f n k (omega arith)))
 
 pub unread : (f : ℕ → ℕ) (i : ℕ) (o₀ o : List ℕ) → o ≡ tab f i ++ drop i o₀ → get_or o i 0 ≡ get_or o₀ i 0
 unread f i o₀ o e =

@@ -8,14 +8,13 @@
 -- deposit_text, Deposits   the same by the layout of today
 --
 -- Assumes nothing.
-use Rattle.std.specs.Prelude.{◌≡◌, cond, List, [], ◌∷◌, ◌++◌, ℕ, ◌-◌, length, replicate}
+use Rattle.std.specs.Prelude.{◌≡◌, cond, List, [], ◌∷◌, ◌++◌, ℕ, ◌-◌, length, replicate, Some, None}
 use Rattle.algebra.specs.Lists.{tab}
-use Rattle.field.specs.Reasons.{Reason, answer_of, is_accepted, bad_lengths}
+use Rattle.field.specs.Reasons.{Outcome, Reason, answer_of, is_accepted, bad_lengths}
 use Rattle.circuit.specs.Circuit.{Layout, by_rows}
 use Rattle.circuit.specs.Buffers.{selectors_length, labels_length, witness_length}
 use Rattle.text.specs.Text.{refused_text}
 use Rattle.sheet.specs.Sheet.{challenge_count, sheet_p, sheet_n, sheet_l, on_selectors, on_labels, on_witness_with, on_publics, on_challenges, sheet_blinded, blinders_on, new_answer_with}
-use Rattle.archive.specs.declared.Deposited.{Deposited}
 use Rattle.archive.specs.Printed.{text_length, work_text_with}
 
 -- the numbers are those that the definitions read from the sheet, as they are lent
@@ -33,13 +32,13 @@ deposit_due bytes = bytes ∷ text_length ∷ []
 abbrev pub deposit_reasons : List ℕ → List ℕ → List Reason
 deposit_reasons s text = bad_lengths (length s ∷ length text ∷ []) (deposit_due (length s)) ∷ []
 
-pub record DepositsWith (L : Layout) (s text : List ℕ) (r : Deposited) (text' : List ℕ) : Type 0 where
+pub record DepositsWith (L : Layout) (s text : List ℕ) (r : Outcome ℕ) (text' : List ℕ) : Type 0 where
   pub answer : r.answer ≡ answer_of (deposit_reasons s text)
-  pub long : r.length ≡ cond (is_accepted r.answer) (length (deposit_text_with L s)) 0
+  pub long : r.value ≡ cond (is_accepted r.answer) (Some (length (deposit_text_with L s))) None
   pub prints : text' ≡ cond (is_accepted r.answer) (deposit_text_with L s ++ replicate (text_length - length (deposit_text_with L s)) 0) text
 
 abbrev pub deposit_text : List ℕ → List ℕ
 deposit_text = deposit_text_with by_rows
 
-abbrev pub Deposits : (s text : List ℕ) (r : Deposited) (text' : List ℕ) → Type 0
+abbrev pub Deposits : (s text : List ℕ) (r : Outcome ℕ) (text' : List ℕ) → Type 0
 Deposits = DepositsWith by_rows

@@ -4,20 +4,18 @@
 -- deposit_fits   so has what `deposit` answers
 --
 -- Assumes nothing.
-use Rattle.std.specs.Prelude.{◌≡◌, refl, Bool, true, false, cond, List, [], ◌∷◌, ℕ, ◌≤◌, length, get_or}
+use Rattle.std.specs.Prelude.{◌≡◌, refl, Bool, true, false, cond, List, [], ◌∷◌, ℕ, ◌≤◌, length, get_or, Some, None}
 use Rattle.std.proofs.Math.Option.{Option, none, some}
 use Rattle.std.proofs.Common.{arith, length-append, eqb-true}
 use Rattle.algebra.specs.Polynomial.{Elements}
-use Rattle.field.specs.declared.Answer.{Answer}
 use Rattle.field.specs.Primes.{rows-power}
 use Rattle.field.specs.Domain.{Domain}
 use Rattle.field.proofs.Domain.{domain}
-use Rattle.field.specs.Reasons.{is_accepted}
+use Rattle.field.specs.Reasons.{Answer, Outcome, given, is_accepted}
 use Rattle.circuit.specs.Circuit.{Constraints, lent_constraints, lent_public, lent_witness}
 use Rattle.circuit.specs.Buffers.{transcript_length}
 use Rattle.protocol.specs.Protocol.{PointVerdict, accept, reject, point_verdict, prepared, proved}
 use Rattle.protocol.specs.Layout.{proved_elements}
-use Rattle.archive.specs.declared.Deposited.{Deposited}
 use Rattle.text.specs.Text.{refused_word, refused_text}
 use Rattle.text.specs.Puts.{length_line}
 use Rattle.archive.specs.Printed.{verdict_text, transcript_text, text_length, proved_text, work_answer, work_text_with, work_text}
@@ -89,9 +87,9 @@ text_fits s =
     work_fits (domain _ _ R.admissible) _ _ _ _ _ _ _ _ (blinded_most s (sheet_n s) (sheet_l s)) (omega (arith, (rows-power _ _ R.admissible.rows).least)) R.few_rows)
     (refused_fits _ _)
 
-pub deposit_fits : (s text : List ℕ) (r : Deposited) (text' : List ℕ) → Deposits s text r text' → r.length ≤ text_length
+pub deposit_fits : (s text : List ℕ) (r : Outcome ℕ) (text' : List ℕ) → Deposits s text r text' → given r ≤ text_length
 deposit_fits s text r text' D = go (is_accepted r.answer) D.long
   where
-    go : (b : Bool) → r.length ≡ cond b (length (deposit_text s)) 0 → r.length ≤ text_length
-    go true e = omega (arith, text_fits s)
-    go false e = omega arith
+    go : (b : Bool) → r.value ≡ cond b (Some (length (deposit_text s))) None → given r ≤ text_length
+    go true e = rw e (text_fits s)
+    go false e = rw e (omega arith)

@@ -18,13 +18,12 @@
 -- Assumes nothing.
 use Rattle.std.specs.Prelude.{cond, List, [], ◌∷◌, ◌++◌, ℕ, get_or, take, replicate}
 use Rattle.std.proofs.Math.Option.{Option, none, some}
-use Rattle.field.specs.declared.Answer.{Answer}
-use Rattle.field.specs.Reasons.{answer_of, is_accepted}
+use Rattle.field.specs.Reasons.{Answer, answer_of, is_accepted}
 use Rattle.circuit.specs.Circuit.{Constraints, Layout, lent_constraints, lent_public, lent_by, by_rows}
 use Rattle.circuit.specs.Buffers.{transcript_length, work_length, wire_part, z_part, t_part}
 use Rattle.protocol.specs.Protocol.{prepared, proved, PointVerdict, accept, reject, point_verdict, prove_reasons_with}
 use Rattle.pointcheck.specs.declared.Judged.{Judged}
-use Rattle.pointcheck.specs.declared.Judged.TheVariants.{None, Accept, Reject}
+use Rattle.pointcheck.specs.declared.Judged.TheVariants.{Accept, Reject}
 use Rattle.text.specs.Text.{line_text, refused_text}
 
 -- LINES
@@ -44,7 +43,6 @@ verdict_text reject = reject_word ++ (10 ∷ [])
 
 -- the same of the answer's enum; nothing where there is no verdict
 abbrev pub judged_text : Judged → List ℕ
-judged_text None = []
 judged_text Accept = verdict_text accept
 judged_text Reject = verdict_text reject
 

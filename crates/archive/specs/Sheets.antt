@@ -16,26 +16,25 @@
 -- text_long        where it is not turned down, the buffer has the text's length
 --
 -- Assumes nothing.
-use Rattle.std.specs.Prelude.{◌≡◌, refl, ◌≢◌, cond, List, [], ◌∷◌, ◌++◌, ℕ, ◌*◌, ◌-◌, ◌≤◌, ◌<◌, length, take, drop, replicate}
+use Rattle.std.specs.Prelude.{◌≡◌, refl, ◌≢◌, Bool, true, false, cond, List, [], ◌∷◌, ◌++◌, ℕ, ◌*◌, ◌-◌, ◌≤◌, ◌<◌, length, take, drop, replicate, Some, None}
 use Rattle.std.proofs.Common.{sym, ap₂, ◌∙◌, arith, take_at, drop_at}
 use Rattle.std.proofs.Math.Path.{ap}
 use Rattle.std.proofs.Math.Bool.{true, false}
-use borrow.Author.Tests.{eq-eqb, ne_eqb}
+use borrow.Author.Tests.{eq-eqb, eqb-true, ne_eqb}
 use Rattle.algebra.specs.Lists.{tab}
 use Rattle.algebra.specs.Polynomial.{Elements}
 use Rattle.algebra.specs.Tables.{length-tab, all_left, all_right}
-use Rattle.field.specs.declared.Answer.{Answer}
 use Rattle.field.specs.Fields.{is_current, Admissible}
 use Rattle.field.specs.Primes.{rows-power}
 use Rattle.field.specs.Lent.{lengths_same, lengths_none}
-use Rattle.field.specs.Reasons.{answer_of, is_accepted, bad_lengths}
+use Rattle.field.specs.Reasons.{Answer, Outcome, answer_of, is_accepted, bad_lengths}
 use Rattle.field.specs.ReasonLaws.{none_applies}
 use Rattle.circuit.specs.Buffers.{blinder_count, selectors_length, labels_length, witness_length}
 use Rattle.text.specs.Text.{refused_text}
-use Rattle.sheet.specs.Sheet.{sheet_rows, challenge_count, drawn_count, sheet_p, sheet_n, sheet_l, sheet_blinded, on_selectors, on_labels, on_witness, on_publics, on_challenges, on_blinders, blinders_on, drawn_on, padded, bad_first, sheet_due, new_answer}
+use Rattle.sheet.specs.Sheet.{sheet_rows, challenge_count, drawn_count, sheet_p, sheet_n, sheet_l, sheet_blinded, sheet_of, on_selectors, on_labels, on_witness, on_publics, on_challenges, on_blinders, blinders_on, drawn_on, padded, bad_first, sheet_due, new_answer}
 use Rattle.sheet.specs.Due.{blinded_most, blinded_lines}
 use Rattle.sheet.specs.Deciding.{prime_line, taken_of, own_answer, new_refused, new_same, new_of, new_retired}
-use Rattle.sheet.specs.declared.SheetAnswer.{SheetAnswer}
+use Rattle.sheet.specs.declared.Sheet.{Sheet}
 use Rattle.sheet.specs.Promises.{Reads}
 use Rattle.archive.specs.Printed.{text_length, work_text}
 use Rattle.archive.specs.Work.{Workable}
@@ -89,7 +88,7 @@ pub record Arrays (selectors labels witness publics drawn : List ℕ) : Type 0 w
   pub publics_long : sheet_rows ≡ length publics
   pub drawn_long : drawn_count ≡ length drawn
 
-module _ (s selectors labels witness publics drawn : List ℕ) (r : SheetAnswer) (selectors' labels' witness' publics' drawn' : List ℕ)
+module _ (s selectors labels witness publics drawn : List ℕ) (r : Outcome Sheet) (selectors' labels' witness' publics' drawn' : List ℕ)
     (R : Reads s selectors labels witness publics drawn r selectors' labels' witness' publics' drawn')
     (L : Arrays selectors labels witness publics drawn) (current : is_current (sheet_p s) ≡ true) where
   pub read_answer_lem : r.answer ≡ new_answer s
@@ -99,28 +98,36 @@ module _ (s selectors labels witness publics drawn : List ℕ) (r : SheetAnswer)
       (own_answer s (bad_lengths (sheet_due (length s)) (sheet_due (length s)) ∷ []) (omega arith, tt) (rw (lengths_none {long = sheet_due (length s)} refl)))
       ∙ sym (new_same s [] current)
 
-  module _ (e : r.answer.number ≡ 0) where
-    pub right : Right s
-    right = right_of s (ap (λ (a : Answer). a.number) (sym read_answer_lem) ∙ e)
+  -- what is read, where anything is
+  module _ (found : Sheet) (e : r.value ≡ Some found) where
+    both : (is_accepted r.answer ≡ true) × (found ≡ sheet_of s)
+    both = go (is_accepted r.answer) (sym e ∙ R.value)
+      where
+        go : (b : Bool) → Some found ≡ cond b (Some (sheet_of s)) None → (b ≡ true) × (found ≡ sheet_of s)
+        go true i = (refl, cc)
+        go false i = cc
 
     accepted : is_accepted r.answer ≡ true
-    accepted = eq-eqb r.answer.number 0 e
+    accepted = both.0
 
-    p_read : r.p ≡ sheet_p s
-    p_read = R.p_is ∙ rw accepted
+    pub right : Right s
+    right = right_of s (ap (λ (a : Answer). a.number) (sym read_answer_lem) ∙ eqb-true r.answer.number 0 accepted)
 
-    n_read : r.n ≡ sheet_n s
-    n_read = R.n_is ∙ rw accepted
+    p_read : found.p ≡ sheet_p s
+    p_read = ap (λ (x : Sheet). x.p) both.1
 
-    l_read : r.l ≡ sheet_l s
-    l_read = R.l_is ∙ rw accepted
+    n_read : found.n ≡ sheet_n s
+    n_read = ap (λ (x : Sheet). x.n) both.1
+
+    l_read : found.l ≡ sheet_l s
+    l_read = ap (λ (x : Sheet). x.l) both.1
 
     -- how many lines of blinders there are
     abbrev lines : ℕ
-    lines = cond r.blinded 1 0
+    lines = cond found.blinded 1 0
 
     lines_read : lines ≡ sheet_blinded s (sheet_n s) (sheet_l s)
-    lines_read = blinded_lines s (sheet_n s) (sheet_l s) lines r.blinded (R.blinded_is ∙ rw accepted) refl
+    lines_read = blinded_lines s (sheet_n s) (sheet_l s) lines found.blinded (ap (λ (x : Sheet). x.blinded) both.1) refl
 
     drawn_read : drawn' ≡ drawn_on s (sheet_n s) (sheet_l s)
     drawn_read = R.challenges_laid ∙ rw accepted
@@ -135,13 +142,13 @@ module _ (s selectors labels witness publics drawn : List ℕ) (r : SheetAnswer)
         (drop_at (tab (on_challenges s (sheet_n s) (sheet_l s)) challenge_count) _ challenge_count (length-tab (on_challenges s (sheet_n s) (sheet_l s)) challenge_count))
         ∙ take-padded blinder_count (on_blinders s (sheet_n s) (sheet_l s)) (blinder_count * sheet_blinded s (sheet_n s) (sheet_l s))
 
-    pub rows_few : r.n ≤ 256
+    pub rows_few : found.n ≤ 256
     rows_few = omega (arith, n_read, right.few_rows)
 
-    pub publics_few : r.l ≤ 256
+    pub publics_few : found.l ≤ 256
     publics_few = omega (arith, l_read, right.few_rows, right.few_publics)
 
-    pub sheet_workable : (text : List ℕ) → length text ≡ text_length → Workable (cond r.blinded 1 0) r.p r.n (take challenge_count drawn') (take (blinder_count * cond r.blinded 1 0) (drop challenge_count drawn')) text
+    pub sheet_workable : (text : List ℕ) → length text ≡ text_length → Workable (cond found.blinded 1 0) found.p found.n (take challenge_count drawn') (take (blinder_count * cond found.blinded 1 0) (drop challenge_count drawn')) text
     sheet_workable text t =
         record {
           blinded = omega (arith, lines_read, blinded_most s (sheet_n s) (sheet_l s));
@@ -152,7 +159,7 @@ module _ (s selectors labels witness publics drawn : List ℕ) (r : SheetAnswer)
           room = t;
         }
 
-    pub sheet_text_lem : work_text (cond r.blinded 1 0) r.p r.n r.l (take (selectors_length r.n) selectors') (take (labels_length r.n) labels') (take (witness_length r.n) witness') (take r.l publics') (take challenge_count drawn') (take (blinder_count * cond r.blinded 1 0) (drop challenge_count drawn'))
+    pub sheet_text_lem : work_text (cond found.blinded 1 0) found.p found.n found.l (take (selectors_length found.n) selectors') (take (labels_length found.n) labels') (take (witness_length found.n) witness') (take found.l publics') (take challenge_count drawn') (take (blinder_count * cond found.blinded 1 0) (drop challenge_count drawn'))
         ≡ deposit_text s
     unfolding deposit_text_with
     sheet_text_lem =
@@ -188,7 +195,7 @@ module _ (s selectors labels witness publics drawn : List ℕ) (r : SheetAnswer)
 -- DEPOSITS
 
 pub refused_deposit : (s text : List ℕ) (a : Answer) → a ≡ answer_of (deposit_reasons s text) → a.number ≢ 0
-    → Deposits s text record { answer = a; length = 0 } text
+    → Deposits s text record { answer = a; value = None } text
 refused_deposit s text a e h = record { answer = e; long = rw (ne_eqb a.number 0 h); prints = rw (ne_eqb a.number 0 h) }
 
 pub text_long : (s text : List ℕ) (a : Answer) → a ≡ answer_of (deposit_reasons s text) → a.number ≡ 0 → length text ≡ text_length
@@ -198,11 +205,11 @@ text_long s text a e h =
 
 pub made_deposit : (s text : List ℕ) (a : Answer) (end : ℕ) (text' last : List ℕ) → a ≡ answer_of (deposit_reasons s text) → a.number ≡ 0
     → length text' ≡ length text → end ≡ length (deposit_text s) → last ≡ deposit_text s ++ replicate (length text' - length (deposit_text s)) 0
-    → Deposits s text record { answer = a; length = end } last
+    → Deposits s text record { answer = a; value = Some end } last
 made_deposit s text a end text' last e h k at f =
     let left : length text' ≡ text_length = omega (arith, text_long s text a e h) in
     record {
       answer = e;
-      long = rw (eq-eqb a.number 0 h) at;
+      long = rw (eq-eqb a.number 0 h) (ap Some at);
       prints = f ∙ rw (eq-eqb a.number 0 h, left);
     }

@@ -18,7 +18,7 @@
 --
 -- The number e is 1 where the transcript is blinded, and 0 where it is not.
 -- Assumes nothing.
-use Rattle.std.specs.Prelude.{◌≡◌, refl, ◌≢◌, true, cond, ℕ, ◌≤◌, length, get_or, take, replicate}
+use Rattle.std.specs.Prelude.{◌≡◌, refl, ◌≢◌, true, cond, ℕ, ◌≤◌, length, get_or, take, replicate, Some, None}
 use Rattle.std.proofs.Common.{sym, ◌∙◌, arith, get_or-take}
 use Rattle.std.proofs.Math.Path.{ap}
 use Rattle.std.proofs.Math.Bool.{false}
@@ -27,11 +27,10 @@ use Rattle.std.proofs.Math.Option.{some}
 use Rattle.std.proofs.lemmas.List.{length-replicate}
 use borrow.Author.Tests.{eq-eqb, ne_eqb}
 use Rattle.algebra.specs.Polynomial.{Elements}
-use Rattle.field.specs.declared.Answer.{Answer}
 use Rattle.field.specs.Fields.{Admissible}
 use Rattle.field.specs.Primes.{rows-power}
 use Rattle.field.proofs.Domain.{domain}
-use Rattle.field.specs.Reasons.{answer_of, is_accepted}
+use Rattle.field.specs.Reasons.{Answer, Outcome, answer_of, is_accepted}
 use Rattle.transform.specs.Transform.{scratch_length}
 use Rattle.circuit.specs.Circuit.{lent_constraints, lent_public, lent_witness}
 use Rattle.circuit.specs.Buffers.{prepared_length, transcript_length, work_length}
@@ -42,8 +41,6 @@ use Rattle.protocol.specs.Layout.{prepared_elements, proved_elements}
 use Rattle.protocol.specs.GrandProduct.{grand_product, proved-laid}
 use Rattle.preparing.specs.Promises.{Prepares}
 use Rattle.pointcheck.specs.declared.Judged.{Judged}
-use Rattle.pointcheck.specs.declared.Judged.TheVariants.{None}
-use Rattle.pointcheck.specs.declared.PointAnswer.{PointAnswer}
 use Rattle.pointcheck.specs.Promises.{judged_as, judged_at, PointChecks}
 use Rattle.witnesses.specs.Accepted.{Accepted, accepted_of}
 use Rattle.prover.specs.Promises.{proved_from, Proves}
@@ -191,13 +188,13 @@ prepared_of {p} {n} {l} selectors labels written scratch r written' scratch' A C
     ∙ ap (λ (a : Answer). cond (is_accepted a) (prepared p n (lent_constraints n selectors labels)) written)
     (P.answer ∙ prepare_taken A written scratch C e f)
 
-pub judged_of : {e p n l : ℕ} {publics prepared transcript challenges : List ℕ} (scratch : List ℕ) (r : PointAnswer) (scratch' : List ℕ)
+pub judged_of : {e p n l : ℕ} {publics prepared transcript challenges : List ℕ} (scratch : List ℕ) (r : Outcome Judged) (scratch' : List ℕ)
     → Judgeable e p n l publics prepared transcript challenges → length scratch ≡ work_length e n
     → PointChecks p n l publics prepared transcript challenges scratch r scratch'
-    → r.verdict ≡ judged_at p n publics prepared transcript challenges
+    → r.value ≡ Some (judged_at p n publics prepared transcript challenges)
 judged_of {e} {p} {n} {l} {publics} {prepared} {transcript} {challenges} scratch r scratch' J long P =
     P.verdict
-    ∙ ap (λ (a : Answer). cond (is_accepted a) (judged_at p n publics prepared transcript challenges) None)
+    ∙ ap (λ (a : Answer). cond (is_accepted a) (Some (judged_at p n publics prepared transcript challenges)) None)
     (P.answer ∙ point_taken J.admissible e scratch J.blinded J.publics_few J.publics-right J.prepared-right J.transcript-right J.challenges_right long)
 
 pub judgeable_of : {e p n l : ℕ} {selectors labels publics transcript challenges : List ℕ}

@@ -5,6 +5,7 @@
 
 ghost use Rattle.std.specs.Prelude.{◌≡◌, true, ◌*◌, ◌≤◌, length, take, drop};
 ghost use Rattle.field.specs.Fields.{is_current};
+ghost use Rattle.field.specs.Reasons.{outcome};
 ghost use Rattle.circuit.specs.Buffers.{blinder_count, selectors_length, labels_length, witness_length};
 ghost use Rattle.text.specs.Puts.{Puts};
 ghost use Rattle.sheet.specs.Sheet.{challenge_count, drawn_count, sheet_p};
@@ -12,20 +13,14 @@ ghost use Rattle.archive.specs.Deposit.{deposit_text, Deposits};
 ghost use Rattle.archive.specs.Printed.{text_length, work_text};
 ghost use Rattle.archive.specs.Work.{Workable};
 
-use field::Answer;
+use field::Refusal;
+use lines::put_refusal;
 
 mod lines;
 mod rooms;
 mod work;
 
-pub use rooms::{TEXT_LENGTH, text_room};
-
-// The answer of `deposit`: how many bytes of the buffer are text; 0 if refused.
-#[derive(Drop)]
-pub struct Deposited {
-    pub answer: Answer,
-    pub length: usize,
-}
+pub use rooms::TEXT_LENGTH;
 
 // The text of a sheet's numbers, which stand at the start of buffers with room for more; the blinders, 9e of them, stand behind the challenges.
 fn print_read(
@@ -71,12 +66,12 @@ fn print_current(sheet: &[u8], text: &mut [u8]) -> usize
     requires { (length text.old ≡ text_length) × (is_current (sheet_p sheet.now) ≡ true) }
     ensures { Puts 0 (deposit_text sheet.now) text.old result text.new }
 {
-    let mut selectors = rooms::selectors_room();
-    let mut labels = rooms::positions_room();
-    let mut witness = rooms::positions_room();
-    let mut publics = rooms::publics_room();
-    let mut drawn = rooms::drawn_room();
-    let found = sheet::read(
+    let mut selectors: [u32; rooms::SELECTORS] = field::room();
+    let mut labels: [u32; rooms::POSITIONS] = field::room();
+    let mut witness: [u32; rooms::POSITIONS] = field::room();
+    let mut publics: [u32; rooms::PUBLICS] = field::room();
+    let mut drawn: [u32; sheet::DRAWN_COUNT] = field::room();
+    let read = sheet::read(
         sheet,
         &mut selectors,
         &mut labels,
@@ -84,16 +79,21 @@ fn print_current(sheet: &[u8], text: &mut [u8]) -> usize
         &mut publics,
         &mut drawn,
     );
-    let answer = found.answer;
-    let number = answer.number;
-    let detail = answer.detail;
-    if number == 0 {
-        let e = sheet::blinder_lines(found.blinded);
-        return print_read(
-            e, found.p, found.n, found.l, &selectors, &labels, &witness, &publics, &drawn, text,
-        );
+    match read {
+        Ok(found) => print_read(
+            sheet::blinder_lines(found.blinded),
+            found.p,
+            found.n,
+            found.l,
+            &selectors,
+            &labels,
+            &witness,
+            &publics,
+            &drawn,
+            text,
+        ),
+        Err(refusal) => put_refusal(refusal, text),
     }
-    text::put_refused(number, detail, text)
 }
 
 // The text of a sheet, at the buffer's start. What its first line tells of its prime is looked at before all that stands behind it.
@@ -101,30 +101,20 @@ fn print_sheet(sheet: &[u8], text: &mut [u8]) -> usize
     requires { length text.old ≡ text_length }
     ensures { Puts 0 (deposit_text sheet.now) text.old result text.new }
 {
-    let prime = sheet::decide_prime(sheet);
-    let number = prime.number;
-    let detail = prime.detail;
-    if number != 0 {
-        return text::put_refused(number, detail, text);
+    match sheet::decide_prime(sheet) {
+        Ok(()) => print_current(sheet, text),
+        Err(refusal) => put_refusal(refusal, text),
     }
-    print_current(sheet, text)
 }
 
-// The text of a sheet and zeros behind it, in a buffer of the text's length. A sheet that is refused has a text too.
-pub fn deposit(sheet: &[u8], text: &mut [u8]) -> Deposited
-    ensures { Deposits sheet.now text.old result text.new }
+// The text of a sheet and zeros behind it, in a buffer of the text's length; how many bytes of the buffer are text. A sheet that is refused has a text too.
+pub fn deposit(sheet: &[u8], text: &mut [u8]) -> Result<usize, Refusal>
+    ensures { Deposits sheet.now text.old (outcome result) text.new }
 {
     let long = [sheet.len(), text.len()];
-    let due = [sheet.len(), 20480];
-    let answer = field::decide_lengths(&long, &due);
-    let number = answer.number;
-    if number != 0 {
-        return Deposited { answer, length: 0 };
-    }
+    let due = [sheet.len(), TEXT_LENGTH];
+    field::decide_lengths(&long, &due)?;
     let end = print_sheet(sheet, text);
-    text::clear(&mut text[end..]);
-    Deposited {
-        answer,
-        length: end,
-    }
+    text[end..].fill(0);
+    Ok(end)
 }

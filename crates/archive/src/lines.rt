@@ -1,11 +1,22 @@
 // The lines of a deposit's text.
 ghost use Rattle.std.specs.Prelude.{◌++◌, ◌+◌, ◌*◌, ◌≤◌, length};
+ghost use Rattle.field.specs.Reasons.{number_of};
+ghost use Rattle.text.specs.Text.{refused_text};
 ghost use Rattle.text.specs.Puts.{field_bytes, Puts};
 ghost use Rattle.archive.specs.Printed.{letter_line, judged_text, transcript_text};
 ghost use Rattle.archive.specs.Lines.{Laid};
 
+use field::Refusal;
 use pointcheck::Judged;
-use text::{put_line, put_word};
+use text::{put_line, put_refused, put_word};
+
+// The line of a refusal, at the buffer's start.
+pub fn put_refusal(refusal: Refusal, out: &mut [u8]) -> usize
+    requires { 30 ≤ length out.old }
+    ensures { Puts 0 (refused_text (number_of refusal.cause) refusal.detail) out.old result out.new }
+{
+    put_refused(refusal.cause.number(), refusal.detail, out)
+}
 
 // The line of a verdict.
 pub fn put_judged(verdict: Judged, out: &mut [u8], at: usize) -> usize
@@ -13,7 +24,6 @@ pub fn put_judged(verdict: Judged, out: &mut [u8], at: usize) -> usize
     ensures { Puts at (judged_text verdict) out.old result out.new }
 {
     match verdict {
-        Judged::None => at,
         Judged::Accept => put_word(b"accept\n", out, at),
         Judged::Reject => put_word(b"reject\n", out, at),
     }

@@ -2,6 +2,7 @@
 // transcript is blinded, else 0.
 ghost use Rattle.std.specs.Prelude.{◌≡◌, [], ◌≤◌, length};
 ghost use Rattle.field.specs.Fields.{Admissible};
+ghost use Rattle.field.specs.Reasons.{told};
 ghost use Rattle.circuit.specs.Circuit.{lent_constraints};
 ghost use Rattle.circuit.specs.Buffers.{prepared_length, transcript_length};
 ghost use Rattle.circuit.specs.RightlyLent.{RightCircuit};
@@ -11,11 +12,10 @@ ghost use Rattle.text.specs.Puts.{Puts};
 ghost use Rattle.archive.specs.Printed.{text_length, work_text};
 ghost use Rattle.archive.specs.Work.{Lays, Judgeable, Checkable, Workable, judged_from, checked_text};
 
-use crate::lines::{put_judged, put_transcript};
-use crate::rooms;
-use field::Answer;
+use crate::lines::{put_judged, put_refusal, put_transcript};
+use crate::rooms::{PREPARED, SCRATCH, TRANSCRIPT};
+use field::Refusal;
 use pointcheck::Judged;
-use text::put_refused;
 
 // The transcript, or why the prover turns the numbers down. The first three challenges are beta, gamma, alpha.
 fn lay(
@@ -30,15 +30,14 @@ fn lay(
     transcript: &mut [u32],
     challenges: &[u32],
     blinders: &[u32],
-) -> Answer
+) -> Result<(), Refusal>
     requires e_bound { (e ≤ 1) × (e ≡ 0 → blinders.now ≡ []) }
     requires n_bound { (n ≤ 256) × (3 ≤ length challenges.now) × (length transcript.old ≡ transcript_length e n) }
-    ensures { Lays e p n l selectors.now labels.now witness.now publics.now challenges.now blinders.now transcript.old result transcript.new }
+    ensures { Lays e p n l selectors.now labels.now witness.now publics.now challenges.now blinders.now transcript.old (told result) transcript.new }
 {
     let m = n as usize;
     let end = circuit::work_length(e, m);
-    let three = 3;
-    let mut scratch = rooms::scratch_room();
+    let mut scratch: [u32; SCRATCH] = field::room();
     prover::run(
         e,
         p,
@@ -49,7 +48,7 @@ fn lay(
         witness,
         publics,
         transcript,
-        &challenges[..three],
+        &challenges[..3],
         blinders,
         &mut scratch[..end],
     )
@@ -62,8 +61,8 @@ fn prepare(p: u32, n: u32, l: u32, selectors: &[u32], labels: &[u32], prepared: 
 {
     let m = n as usize;
     let end = transform::scratch_length(m);
-    let mut scratch = rooms::scratch_room();
-    preparing::prepare(p, n, l, selectors, labels, prepared, &mut scratch[..end]);
+    let mut scratch: [u32; SCRATCH] = field::room();
+    preparing::prepare(p, n, l, selectors, labels, prepared, &mut scratch[..end]).unwrap();
 }
 
 // The point verdict on a transcript and a prepared circuit.
@@ -82,8 +81,8 @@ fn check(
 {
     let m = n as usize;
     let end = circuit::work_length(e, m);
-    let mut scratch = rooms::scratch_room();
-    let answer = pointcheck::check_point(
+    let mut scratch: [u32; SCRATCH] = field::room();
+    pointcheck::check_point(
         p,
         n,
         l,
@@ -92,8 +91,8 @@ fn check(
         transcript,
         challenges,
         &mut scratch[..end],
-    );
-    answer.verdict
+    )
+    .unwrap()
 }
 
 // The point verdict on a transcript and a circuit, which is prepared first.
@@ -113,7 +112,7 @@ fn judge(
 {
     let m = n as usize;
     let end = circuit::prepared_length(m);
-    let mut prepared = rooms::prepared_room();
+    let mut prepared: [u32; PREPARED] = field::room();
     prepare(p, n, l, selectors, labels, &mut prepared[..end]);
     check(
         e,
@@ -170,8 +169,8 @@ pub fn print_work(
 {
     let m = n as usize;
     let end = circuit::transcript_length(e, m);
-    let mut transcript = rooms::transcript_room();
-    let answer = lay(
+    let mut transcript: [u32; TRANSCRIPT] = field::room();
+    let laid = lay(
         e,
         p,
         n,
@@ -184,10 +183,8 @@ pub fn print_work(
         challenges,
         blinders,
     );
-    let number = answer.number;
-    let detail = answer.detail;
-    if number == 0 {
-        return print_checked(
+    match laid {
+        Ok(()) => print_checked(
             e,
             p,
             n,
@@ -198,7 +195,7 @@ pub fn print_work(
             &transcript[..end],
             challenges,
             text,
-        );
+        ),
+        Err(refusal) => put_refusal(refusal, text),
     }
-    put_refused(number, detail, text)
 }

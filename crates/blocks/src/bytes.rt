@@ -1,9 +1,9 @@
 // Buffers of bytes: sheets, which are files beside the cases, and texts that a call writes. Each stands at the start of a room, as a buffer of words does.
 ghost use Rattle.std.specs.Prelude.{◌≡◌, length};
-ghost use Rattle.io.specs.Counts.{IsPrefixLen};
 
-use super::{buffers, lines};
-use streams::{Got, print};
+use super::buffers;
+use super::words::{first, first_mut};
+use streams::print;
 
 // The bytes of a room: more than the longest buffer has, which is that of a joined sheet, of 65,536.
 const ROOM: usize = 73728;
@@ -19,22 +19,15 @@ fn room() -> Room
     [MARK; ROOM]
 }
 
-// How many of the first k bytes there are: k, or the length where that is less.
-fn within(xs: &[u8], k: usize) -> usize
-    ensures { IsPrefixLen result xs.now }
-{
-    if k < xs.len() { k } else { xs.len() }
-}
-
 // The bytes of a line, at the start of a room of marks; how many are lent. A file that cannot be read gets a line that no expected
 // output has.
 fn lay(rt: HostRuntime, line: &[u8], out: &mut [u8]) -> usize {
-    if !lines::begins(line, b'@') {
+    let [b'@', name @ ..] = line else {
         return buffers::marks(line);
-    }
-    match streams::read_named(rt, lines::rest(line), out) {
-        Got::Bytes(n) => n,
-        Got::Failed => {
+    };
+    match streams::read_named(rt, name, out) {
+        Some(n) => n,
+        None => {
             print(rt, b"a file cannot be read\n");
             0
         }
@@ -58,60 +51,33 @@ pub fn laid(rt: HostRuntime, line: &[u8]) -> Room
 
 // What is lent of a room to be read: the bytes of its line.
 pub fn part<'a>(rt: HostRuntime, bytes: &'a Room, line: &[u8]) -> &'a [u8] {
-    let k = count(rt, line);
-    let xs = &bytes[..];
-    let m = within(xs, k);
-    &xs[..m]
+    first(bytes, count(rt, line))
 }
 
 // What is lent of a room to be written.
 pub fn lent<'a>(rt: HostRuntime, xs: &'a mut [u8], line: &[u8]) -> &'a mut [u8] {
-    let k = count(rt, line);
-    let m = within(xs, k);
-    &mut xs[..m]
+    first_mut(xs, count(rt, line))
 }
 
-// All bytes from a place on are this one.
-fn all(xs: &[u8], from: usize, byte: u8) -> bool {
-    let mut i = from;
-    while i < xs.len() {
-        if xs[i] != byte {
-            return false;
-        }
-        i += 1;
-    }
-    true
-}
-
-// How many bytes there are before the first 0.
-fn used(xs: &[u8]) -> usize
-    ensures { IsPrefixLen result xs.now }
-{
-    let mut k = 0;
-    while k < xs.len() {
-        if xs[k] == 0 {
-            return k;
-        }
-        k += 1;
-    }
-    k
+// All bytes are this one.
+fn all(xs: &[u8], byte: u8) -> bool {
+    xs.iter().all(|x| *x == byte)
 }
 
 // What became of a buffer that was marks, and of the room behind it: `kept`, or the text that it holds, with zeros behind it.
 pub fn look(rt: HostRuntime, line: &[u8], bytes: &Room) {
-    let xs = &bytes[..];
-    let k = within(xs, buffers::marks(line));
-    let lent = &xs[..k];
-    let text = used(lent);
-    if all(lent, 0, MARK) {
+    let (lent, behind) = bytes.split_at(buffers::marks(line).min(ROOM));
+    let k = lent.iter().position(|x| *x == 0).unwrap_or(lent.len());
+    let (text, zeros) = lent.split_at(k);
+    if all(lent, MARK) {
         print(rt, b"kept\n");
-    } else if all(lent, text, 0) {
-        print(rt, &lent[..text]);
+    } else if all(zeros, 0) {
+        print(rt, text);
         print(rt, b"zeros behind\n");
     } else {
         print(rt, b"neither a text nor zeros behind it\n");
     }
-    if !all(xs, k, MARK) {
+    if !all(behind, MARK) {
         print(rt, b"bytes behind a buffer are changed\n");
     }
 }

@@ -1,15 +1,24 @@
 // Words of a buffer: what every test program does with them.
-ghost use Rattle.std.specs.Prelude.{◌≡◌, ◌≤◌, length, take};
+ghost use Rattle.std.specs.Prelude.{◌≡◌, length, min, take};
 
 // The first of the marks, which go upward: numbers that no result has, since they are above every prime.
 pub const MARK: u32 = 3000000000;
 
-// How many of the first n words there are: n, or the length where that is less. The last fact follows from the one before, and lends
-// `&xs[..r]` with no proof.
-pub fn within(xs: &[u32], n: usize) -> usize
-    ensures { (result ≤ n) × (result ≤ length xs.now) × (result ≡ length (take result xs.now)) }
+// The first n elements, or all where there are fewer.
+pub fn first<T>(xs: &[T], n: usize) -> &[T]
+    ensures value { result.now ≡ take n xs.now }
+    ensures len { length result.now ≡ min n (length xs.now) }
 {
-    if n < xs.len() { n } else { xs.len() }
+    &xs[..n.min(xs.len())]
+}
+
+// The same, to be written.
+pub fn first_mut<T>(xs: &mut [T], n: usize) -> &mut [T]
+    ensures value { result.now ≡ take n xs.old }
+    ensures len { length result.now ≡ min n (length xs.old) }
+{
+    let k = n.min(xs.len());
+    &mut xs[..k]
 }
 
 // x at a place, where the buffer has that place.
@@ -21,24 +30,9 @@ pub fn put(xs: &mut [u32], place: usize, x: u32) {
 
 // Numbers from `first` on, each `step` more than the one before.
 pub fn progression(xs: &mut [u32], first: u32, step: u32) {
-    let mut x = first;
-    for i in 0..xs.len() {
-        xs[i] = x;
-        x = std::num::wrapping_add_u32(x, step);
+    let mut next = first;
+    for x in xs {
+        *x = next;
+        next = next.wrapping_add(step);
     }
-}
-
-// Two buffers of one length have the same words, from a place on.
-pub fn same(xs: &[u32], ys: &[u32], from: usize) -> bool {
-    if xs.len() != ys.len() {
-        return false;
-    }
-    let mut i = from;
-    while i < xs.len() {
-        if xs[i] != ys[i] {
-            return false;
-        }
-        i += 1;
-    }
-    true
 }

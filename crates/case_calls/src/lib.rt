@@ -4,14 +4,12 @@
 // first two.
 #![tactic(auto)]
 
-use blocks::lines::is;
-
 // The calls that are lent one number, n.
 fn make_transfer(name: &[u8], n: u32, a: &[u32], x: &mut [u32], answer: &mut [u32]) {
-    if is(name, b"to_rows") {
-        exports::guppyspoon_to_rows(n, a, x, answer);
-    } else if is(name, b"to_columns") {
-        exports::guppyspoon_to_columns(n, a, x, answer);
+    match name {
+        b"to_rows" => exports::guppyspoon_to_rows(n, a, x, answer),
+        b"to_columns" => exports::guppyspoon_to_columns(n, a, x, answer),
+        _ => {}
     }
 }
 
@@ -26,18 +24,13 @@ fn make_small(
     y: &mut [u32],
     answer: &mut [u32],
 ) {
-    if is(name, b"inverse") {
-        exports::guppyspoon_inverse(p, n, answer);
-    } else if is(name, b"evaluate") {
-        exports::guppyspoon_evaluate(p, n, a, x, y, answer);
-    } else if is(name, b"interpolate") {
-        exports::guppyspoon_interpolate(p, n, a, x, y, answer);
-    } else if is(name, b"permutation") {
-        exports::guppyspoon_permutation(p, n, a, x, answer);
-    } else if is(name, b"lost_gammas") {
-        exports::guppyspoon_lost_gammas(p, n, a, b, answer);
-    } else {
-        make_transfer(name, p, a, x, answer);
+    match name {
+        b"inverse" => exports::guppyspoon_inverse(p, n, answer),
+        b"evaluate" => exports::guppyspoon_evaluate(p, n, a, x, y, answer),
+        b"interpolate" => exports::guppyspoon_interpolate(p, n, a, x, y, answer),
+        b"permutation" => exports::guppyspoon_permutation(p, n, a, x, answer),
+        b"lost_gammas" => exports::guppyspoon_lost_gammas(p, n, a, b, answer),
+        _ => make_transfer(name, p, a, x, answer),
     }
 }
 
@@ -57,24 +50,17 @@ pub fn make<'a>(
     z: &mut [u32],
     answer: &mut [u32],
 ) {
-    let p = numbers[0];
-    let n = numbers[1];
-    let l = numbers[2];
-    if is(name, b"prepare") {
-        exports::guppyspoon_prepare(p, n, l, a, b, x, y, answer);
-    } else if is(name, b"check_rows") {
-        exports::guppyspoon_check_rows(p, n, l, a, b, c, d, e, f, answer);
-    } else if is(name, b"check_point") {
-        exports::guppyspoon_check_point(p, n, l, a, b, c, d, x, answer);
-    } else if is(name, b"open") {
-        exports::guppyspoon_open(p, n, a, b, c, x, y, f, z, answer);
-    } else if is(name, b"check_opening") {
-        exports::guppyspoon_check_opening(p, n, a, b, c, d, e, f, x, answer);
-    } else if is(name, b"prove") {
-        exports::guppyspoon_prove(p, n, l, a, b, c, d, x, f, y, answer);
-    } else if is(name, b"prove_blinded") {
-        exports::guppyspoon_prove_blinded(p, n, l, a, b, c, d, x, f, g, y, answer);
-    } else {
-        make_small(name, p, n, a, b, x, y, answer);
+    let [p, n, l] = *numbers;
+    match name {
+        b"prepare" => exports::guppyspoon_prepare(p, n, l, a, b, x, y, answer),
+        b"check_rows" => exports::guppyspoon_check_rows(p, n, l, a, b, c, d, e, f, answer),
+        b"check_point" => exports::guppyspoon_check_point(p, n, l, a, b, c, d, x, answer),
+        b"open" => exports::guppyspoon_open(p, n, a, b, c, x, y, f, z, answer),
+        b"check_opening" => exports::guppyspoon_check_opening(p, n, a, b, c, d, e, f, x, answer),
+        b"prove" => exports::guppyspoon_prove(p, n, l, a, b, c, d, x, f, y, answer),
+        b"prove_blinded" => exports::guppyspoon_prove_blinded(
+            p, n, l, a, b, c, d, x, f, g, y, answer,
+        ),
+        _ => make_small(name, p, n, a, b, x, y, answer),
     }
 }

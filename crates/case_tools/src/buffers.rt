@@ -1,50 +1,33 @@
 // Buffers to lend: made, filled, and looked at afterwards.
 ghost use Rattle.std.specs.Prelude.{◌≡◌, ◌≤◌, length};
 
-use blocks::words::{MARK, progression, put, within};
+use blocks::words::{self, MARK, progression, put};
 
 // A buffer with room for a circuit and all that belongs to it, or for a scratch, of 1,024 rows.
 pub type Words = [u32; 32768];
-
-pub fn room() -> Words
-    ensures { 32768 ≡ length result }
-{
-    [0; 32768]
-}
-
-// A buffer that stands behind a reference, of which it is then known how long it is.
-pub fn copy(words: Words) -> Words
-    ensures { 32768 ≡ length result }
-{
-    words
-}
 
 // So many words from a place on, or those that there are.
 pub fn part(words: &Words, place: usize, count: usize) -> &[u32]
     ensures { length result.now ≤ count }
 {
-    let xs = &words[..];
-    let a = within(xs, place);
-    let rest = &xs[a..];
-    let k = within(rest, count);
-    &rest[..k]
+    let rest = words.get(place..).unwrap_or(&[]);
+    words::first(rest, count)
 }
 
 // The first so many words, to be written.
 pub fn first(xs: &mut [u32], count: usize) -> &mut [u32] {
-    let k = within(xs, count);
-    &mut xs[..k]
+    words::first_mut(xs, count)
 }
 
 // The word at a place, and 0 past the end.
 pub fn at(xs: &[u32], place: usize) -> u32 {
-    if place < xs.len() { xs[place] } else { 0 }
+    xs.get(place).copied().unwrap_or(0)
 }
 
 // Words written from a place on, as many as there is room for.
 pub fn lay(xs: &[u32], out: &mut [u32], place: usize) {
-    for i in 0..xs.len() {
-        put(out, std::num::wrapping_add_usize(place, i), xs[i]);
+    for (to, from) in out.iter_mut().skip(place).zip(xs) {
+        *to = *from;
     }
 }
 
@@ -52,7 +35,7 @@ pub fn lay(xs: &[u32], out: &mut [u32], place: usize) {
 pub fn marked() -> Words
     ensures { 32768 ≡ length result }
 {
-    let mut xs = room();
+    let mut xs: Words = field::room();
     progression(&mut xs, MARK, 1);
     xs
 }
@@ -67,48 +50,52 @@ pub fn mul_add(p: u32, a: u32, b: u32, c: u32) -> u32 {
 
 // The words with the last one before `end` raised by one modulo p.
 pub fn raised(p: u32, mut words: Words, end: usize) -> Words {
-    let place = std::num::wrapping_sub_usize(end, 1);
+    let place = end.wrapping_sub(1);
     let x = mul_add(p, 1, 1, at(&words, place));
     put(&mut words, place, x);
     words
 }
 
-// The number after x in a fixed sequence that looks random: one for circuits, another for what is no circuit.
-pub fn next(circuit: bool, x: u32) -> u32 {
-    if circuit {
-        let y = (x as u64 * 48271 + 11) % 2147483647;
-        return y as u32;
-    }
-    let y = (x as u64 * 1664525 + 1013904223) % 4294967296;
+// The number after x in a fixed sequence that looks random, of which circuits are made.
+pub fn next(x: u32) -> u32 {
+    let y = (x as u64 * 48271 + 11) % 2147483647;
     y as u32
 }
 
-// Numbers below p: those behind `first` in a sequence.
-pub fn fill(circuit: bool, p: u32, first: u32, xs: &mut [u32]) {
-    let mut x = first;
-    for i in 0..xs.len() {
-        x = next(circuit, x);
-        xs[i] = mul_add(p, x, 0, 0);
+// The same in another sequence, for what is no circuit.
+fn next_other(x: u32) -> u32 {
+    x.wrapping_mul(1664525).wrapping_add(1013904223)
+}
+
+// Numbers below p: those behind `first` in the sequence in which `next` gives the number after each.
+fn fill_by<F: Fn(u32) -> u32>(next: F, p: u32, first: u32, xs: &mut [u32])
+    requires { F.IsAlwaysCallable next }
+{
+    let mut drawn = first;
+    for x in xs {
+        drawn = next(drawn);
+        *x = mul_add(p, drawn, 0, 0);
     }
+}
+
+// The same in the sequence of which circuits are made.
+pub fn fill(p: u32, first: u32, xs: &mut [u32]) {
+    fill_by(next, p, first, xs);
 }
 
 // As many numbers below p that look random as there is room for.
 pub fn random(p: u32) -> Words {
-    let mut xs = room();
-    fill(false, p, p, &mut xs);
+    let mut xs: Words = field::room();
+    fill_by(next_other, p, p, &mut xs);
     xs
 }
 
 // A number below p that looks random.
 pub fn draw(p: u32, seed: u32) -> u32 {
-    mul_add(p, next(true, next(true, seed)), 0, 0)
+    mul_add(p, next(next(seed)), 0, 0)
 }
 
 // A number that depends on every word and on their order.
 pub fn digest(xs: &[u32]) -> u32 {
-    let mut d: u32 = 0;
-    for i in 0..xs.len() {
-        d = mul_add(1000003, xs[i], 31, d);
-    }
-    d
+    xs.iter().fold(0, |d, x| mul_add(1000003, *x, 31, d))
 }

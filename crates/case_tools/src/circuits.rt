@@ -3,8 +3,8 @@ ghost use Rattle.std.specs.Prelude.{◌≤◌};
 
 use super::buffers::{Words, first, part};
 use super::{buffers, print};
-use blocks::words::{MARK, progression, put, same, within};
-use field::Answer;
+use blocks::words::{MARK, first_mut, progression, put};
+use field::Refusal;
 use pointcheck::Judged;
 use rowcheck::{Identity, Verdict};
 
@@ -40,7 +40,7 @@ const LIST: [u32; 13] = [12, 11, 10, 9, 8, 7, 6, 5, 4, 3, 2, 1, 0];
 pub fn blinding(s: Shape) -> usize
     ensures { result ≤ 1 }
 {
-    if s.blinded { 1 } else { 0 }
+    usize::from(s.blinded)
 }
 
 // The length of the transcript.
@@ -59,7 +59,12 @@ pub fn transcript(s: Shape, words: &Words) -> &[u32] {
 }
 
 // What `prove_blinded` answers.
-fn prove_blinded(s: Shape, words: &Words, transcript: &mut [u32], scratch: &mut [u32]) -> Answer {
+fn prove_blinded(
+    s: Shape,
+    words: &Words,
+    transcript: &mut [u32],
+    scratch: &mut [u32],
+) -> Result<(), Refusal> {
     let n = s.n as usize;
     prover::prove_blinded(
         s.p,
@@ -77,7 +82,12 @@ fn prove_blinded(s: Shape, words: &Words, transcript: &mut [u32], scratch: &mut 
 }
 
 // What `prove` answers, or `prove_blinded` where the transcript is to be blinded.
-pub fn prove(s: Shape, words: &Words, transcript: &mut [u32], scratch: &mut [u32]) -> Answer {
+pub fn prove(
+    s: Shape,
+    words: &Words,
+    transcript: &mut [u32],
+    scratch: &mut [u32],
+) -> Result<(), Refusal> {
     if s.blinded {
         return prove_blinded(s, words, transcript, scratch);
     }
@@ -100,10 +110,11 @@ pub fn prove(s: Shape, words: &Words, transcript: &mut [u32], scratch: &mut [u32
 pub fn prepared(s: Shape, words: &Words) -> Words {
     let n = s.n as usize;
     let k = 8 * n;
-    let mut written = buffers::room();
-    let mut scratch = buffers::room();
-    let mut changed = buffers::copy(*words);
-    preparing::prepare(
+    let mut written: Words = field::room();
+    let mut scratch: Words = field::room();
+    let mut changed = *words;
+    // A call that is turned down writes nothing: the place stays 0.
+    let _ = preparing::prepare(
         s.p,
         s.n,
         s.l,
@@ -124,26 +135,20 @@ pub fn label(rt: HostRuntime, text: &[u8], s: Shape) {
     }
 }
 
-pub fn is_accept(v: Judged) -> bool {
-    match v {
-        Judged::Accept => true,
-        _ => false,
+// A verdict at a point; `none` where the call is turned down.
+pub fn print_judged(rt: HostRuntime, r: Result<Judged, Refusal>) {
+    match r {
+        Ok(Judged::Accept) => print::word(rt, b"accept"),
+        Ok(Judged::Reject) => print::word(rt, b"reject"),
+        Err(_) => print::word(rt, b"none"),
     }
 }
 
-pub fn print_judged(rt: HostRuntime, v: Judged) {
-    match v {
-        Judged::None => print::word(rt, b"none"),
-        Judged::Accept => print::word(rt, b"accept"),
-        Judged::Reject => print::word(rt, b"reject"),
-    }
-}
-
-// The point check's verdict.
-pub fn point(s: Shape, words: &Words) -> Judged {
+// What the point check answers.
+pub fn point(s: Shape, words: &Words) -> Result<Judged, Refusal> {
     let n = s.n as usize;
-    let mut scratch = buffers::room();
-    let r = pointcheck::check_point(
+    let mut scratch: Words = field::room();
+    pointcheck::check_point(
         s.p,
         s.n,
         s.l,
@@ -152,8 +157,7 @@ pub fn point(s: Shape, words: &Words) -> Judged {
         transcript(s, words),
         part(words, CHALLENGES, 4),
         first(&mut scratch, work(s)),
-    );
-    r.verdict
+    )
 }
 
 // How many zetas are tried: all of them over the two small primes.
@@ -166,10 +170,7 @@ fn tried(s: Shape) -> u32 {
 
 // The zeta of a try. Over the largest prime they are 0, the points of rows 0 and 1, and numbers that look random.
 fn zeta(s: Shape, k: u32) -> u32 {
-    if s.p <= 97 {
-        return k;
-    }
-    if s.n == 0 {
+    if s.p <= 97 || s.n == 0 {
         return k;
     }
     match k {
@@ -182,18 +183,14 @@ fn zeta(s: Shape, k: u32) -> u32 {
 // The verdict with this zeta is accept.
 fn accepts(s: Shape, mut words: Words, zeta: u32) -> bool {
     words[CHALLENGES + 3] = zeta;
-    is_accept(point(s, &words))
+    point(s, &words) == Ok(Judged::Accept)
 }
 
 // At how many of the tried zetas the transcript is accepted.
 pub fn accepted(s: Shape, words: &Words) -> u32 {
-    let mut count: u32 = 0;
-    for k in 0..tried(s) {
-        if accepts(s, *words, zeta(s, k)) {
-            count = std::num::wrapping_add_u32(count, 1);
-        }
-    }
-    count
+    (0..tried(s))
+        .filter(|k| accepts(s, *words, zeta(s, *k)))
+        .count() as u32
 }
 
 // The same, `of`, and how many were tried.
@@ -219,34 +216,27 @@ fn print_identity(rt: HostRuntime, id: Identity) {
     }
 }
 
-fn print_verdict(rt: HostRuntime, v: Verdict) {
-    match v {
-        Verdict::None => print::word(rt, b"none"),
-        Verdict::Pass => print::word(rt, b"pass"),
-        Verdict::Fails(id, row) => {
+// A verdict on the rows; `none` where the call is turned down.
+fn print_verdict(rt: HostRuntime, r: Result<Verdict, Refusal>) {
+    match r {
+        Ok(Verdict::Pass) => print::word(rt, b"pass"),
+        Ok(Verdict::Fails(id, row)) => {
             print_identity(rt, id);
             print::number(rt, row);
         }
+        Err(_) => print::word(rt, b"none"),
     }
-}
-
-// The remainder of i by n, and 0 for n = 0.
-fn remainder(i: usize, n: usize) -> usize {
-    if n == 0 {
-        return 0;
-    }
-    i % n
 }
 
 // The n coefficients that a polynomial leaves over X^n - 1, which have its values on the rows: those that it has from n on are added in turn to the first.
 fn folded(p: u32, n: usize, f: &[u32]) -> Words {
-    let mut low = buffers::room();
-    let k = within(f, n);
-    buffers::lay(&f[..k], &mut low, 0);
-    for i in k..f.len() {
-        let at = remainder(i, n);
-        let x = buffers::mul_add(p, buffers::at(&low, at), 1, f[i]);
-        put(&mut low, at, x);
+    let mut low: Words = field::room();
+    let (first, rest) = f.split_at(n.min(f.len()));
+    buffers::lay(first, &mut low, 0);
+    for (i, x) in rest.iter().enumerate() {
+        let at = i.checked_rem(n).unwrap_or(0);
+        let sum = buffers::mul_add(p, buffers::at(&low, at), 1, *x);
+        put(&mut low, at, sum);
     }
     low
 }
@@ -257,10 +247,11 @@ fn z_rows(s: Shape, words: &Words) -> Words {
     let e = blinding(s);
     let start = TRANSCRIPT + circuit::z_start(e, n);
     let low = folded(s.p, n, part(words, start, circuit::z_length(e, n)));
-    let mut z = buffers::room();
-    let mut scratch = buffers::room();
+    let mut z: Words = field::room();
+    let mut scratch: Words = field::room();
     let work = first(&mut scratch, 16 * n);
-    transform::evaluate(s.p, s.n, part(&low, 0, n), first(&mut z, n), work);
+    // A call that is turned down writes nothing: z stays 0.
+    let _ = transform::evaluate(s.p, s.n, part(&low, 0, n), first(&mut z, n), work);
     z
 }
 
@@ -280,14 +271,13 @@ pub fn print_rows(rt: HostRuntime, s: Shape, words: &Words) {
         part(&z, 0, n),
         part(words, CHALLENGES, 2),
     );
-    let v = r.verdict;
-    print_verdict(rt, v);
+    print_verdict(rt, r);
     print::text(rt, b"\n");
 }
 
 // The numbers that were written over marks, or a digest where they are many; `kept` where the marks are there.
 fn print_written(rt: HostRuntime, xs: &[u32]) {
-    if same(xs, part(&buffers::marked(), 0, xs.len()), 0) {
+    if xs == part(&buffers::marked(), 0, xs.len()) {
         print::word(rt, b"kept");
     } else if xs.len() <= 13 {
         print::word(rt, b"written");
@@ -320,12 +310,10 @@ fn check(
         &[3, 5],
         first(&mut scratch, k),
     );
-    let answer = r.answer;
-    let verdict = r.verdict;
     label(rt, text, s);
     print::heading(rt, b",check", &[s.p, s.n]);
-    print::answer(rt, answer);
-    print_judged(rt, verdict);
+    print::answer(rt, &r);
+    print_judged(rt, r);
     print::left(rt, part(&scratch, 0, k));
     print::text(rt, b"\n");
 }
@@ -338,8 +326,7 @@ pub fn every_polynomial(rt: HostRuntime, s: Shape, words: &Words) {
     progression(&mut values, MARK, 1);
     let mut quotient = buffers::marked();
     let mut scratch = buffers::marked();
-    let a = within(&quotient, circuit::opening_length(blinding(s), n));
-    let q = &mut quotient[..a];
+    let q = first_mut(&mut quotient, circuit::opening_length(blinding(s), n));
     let answer = opening::open(
         s.p,
         s.n,
@@ -353,7 +340,7 @@ pub fn every_polynomial(rt: HostRuntime, s: Shape, words: &Words) {
     );
     label(rt, b"every polynomial", s);
     print::heading(rt, b",open", &[s.p, s.n]);
-    print::answer(rt, answer);
+    print::answer(rt, &answer);
     print_written(rt, &values);
     print_written(rt, q);
     print::left(rt, part(&scratch, 0, k));

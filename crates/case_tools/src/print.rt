@@ -1,7 +1,6 @@
 // Lines of output: a label, then words and numbers with a comma before each.
 use super::buffers;
-use blocks::words::same;
-use field::Answer;
+use field::Refusal;
 
 // Bytes as they are: a label at a line's start.
 pub fn text(rt: HostRuntime, bytes: &[u8]) {
@@ -23,14 +22,13 @@ pub fn either(rt: HostRuntime, test: bool, yes: &[u8], no: &[u8]) {
 }
 
 pub fn number(rt: HostRuntime, x: u32) {
-    let mut digits = [0u8; 20];
-    let k = io::decimal(x as u64, &mut digits);
-    word(rt, &digits[..k]);
+    text(rt, b",");
+    streams::print_number(rt, u64::from(x));
 }
 
 pub fn numbers(rt: HostRuntime, xs: &[u32]) {
-    for i in 0..xs.len() {
-        number(rt, xs[i]);
+    for x in xs {
+        number(rt, *x);
     }
 }
 
@@ -40,16 +38,19 @@ pub fn heading(rt: HostRuntime, label: &[u8], xs: &[u32]) {
     numbers(rt, xs);
 }
 
-// An answer's number and its detail.
-pub fn answer(rt: HostRuntime, a: Answer) {
-    numbers(rt, &[a.number, a.detail]);
+// What a call answers: the number and the detail of its refusal; 0 and 0 where it is accepted.
+pub fn answer<T>(rt: HostRuntime, r: &Result<T, Refusal>) {
+    match r {
+        Ok(_) => numbers(rt, &[0, 0]),
+        Err(e) => numbers(rt, &[e.cause.number(), e.detail]),
+    }
 }
 
 // What became of the start of a marked buffer: `kept`, `cleared`, or a digest of what was written.
 pub fn left(rt: HostRuntime, xs: &[u32]) {
-    if same(xs, buffers::part(&buffers::marked(), 0, xs.len()), 0) {
+    if xs == buffers::part(&buffers::marked(), 0, xs.len()) {
         word(rt, b"kept");
-    } else if same(xs, buffers::part(&buffers::room(), 0, xs.len()), 0) {
+    } else if xs.iter().all(|x| *x == 0) {
         word(rt, b"cleared");
     } else {
         number(rt, buffers::digest(xs));

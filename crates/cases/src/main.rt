@@ -17,7 +17,6 @@
 ghost use Rattle.std.specs.Prelude.{◌≡◌, ◌≤◌, ◌<◌, length};
 
 use blocks::lines;
-use streams::Got;
 
 mod polynomial;
 mod sheets;
@@ -26,68 +25,54 @@ mod words;
 // Room for a file of cases.
 const FILE_ROOM: usize = 524288;
 
-fn file_room() -> [u8; FILE_ROOM]
-    ensures { 524288 ≡ length result }
-{
-    [0; FILE_ROOM]
-}
-
 // The call that a block names is made.
 fn run_block(rt: HostRuntime, s: &[u8]) {
-    let name = lines::line(s, 0);
-    if lines::is(name, b"deposit") {
-        sheets::deposit(rt, s);
-    } else if lines::is(name, b"join") {
-        sheets::join(rt, s);
-    } else if lines::is(name, b"read") {
-        sheets::read(rt, s);
-    } else if lines::is(name, b"polynomial") {
-        polynomial::run(rt, s);
-    } else {
-        words::run(rt, s);
+    match lines::line(s, 0) {
+        b"deposit" => sheets::deposit(rt, s),
+        b"join" => sheets::join(rt, s),
+        b"read" => sheets::read(rt, s),
+        b"polynomial" => polynomial::run(rt, s),
+        _ => words::run(rt, s),
     }
 }
 
-// A line that begins with #, or a block, at the text's start; where what is behind it starts.
-fn run_first(rt: HostRuntime, s: &[u8]) -> usize
+// A line that begins with #, or a block, at the text's start; what is behind it.
+fn run_first(rt: HostRuntime, s: &[u8]) -> &[u8]
     requires { 0 < length s.now }
-    ensures { (0 < result) × (result ≤ length s.now) }
+    ensures { length result.now < length s.now }
 {
     if s[0] == b'#' {
-        let end = lines::next(s, 0);
-        streams::print(rt, &s[..end]);
-        return end;
+        let (remark, behind) = s.split_at(lines::next(s, 0));
+        streams::print(rt, remark);
+        return behind;
     }
-    let stop = lines::stop(s);
-    run_block(rt, &s[..stop]);
-    if stop < s.len() {
-        return lines::next(s, stop);
+    let (block, behind) = s.split_at(lines::stop(s));
+    run_block(rt, block);
+    if behind.is_empty() {
+        return behind;
     }
-    stop
+    &behind[lines::next(behind, 0)..]
 }
 
 // Every block of a file.
-fn run_all(rt: HostRuntime, s: &[u8]) {
-    let mut at = 0;
-    while at < s.len() {
-        at += run_first(rt, &s[at..]);
+fn run_all(rt: HostRuntime, mut s: &[u8]) {
+    while !s.is_empty() {
+        s = run_first(rt, s);
     }
 }
 
-// The file that argument i names; false where it cannot be read, which is told.
-fn run_file(rt: HostRuntime, i: usize) -> bool {
-    let mut file = file_room();
-    let Got::Bytes(n) = streams::read_file(rt, i, &mut file) else {
-        return false;
-    };
+// The file that argument i names; none where it cannot be read, which is told.
+fn run_file(rt: HostRuntime, i: usize) -> Option<()> {
+    let mut file: [u8; FILE_ROOM] = field::room();
+    let n = streams::read_file(rt, i, &mut file)?;
     run_all(rt, &file[..n]);
-    true
+    Some(())
 }
 
 fn main(rt: HostRuntime) {
-    let end = streams::arg_count(rt);
-    let mut i = 1;
-    while i < end && run_file(rt, i) {
-        i += 1;
+    for i in 1..streams::arg_count(rt) {
+        if run_file(rt, i).is_none() {
+            return;
+        }
     }
 }

@@ -66,9 +66,9 @@ fn make(
 // that one too many shows.
 pub fn run(rt: HostRuntime, s: &[u8]) {
     let mut answer = [MARK; 5];
-    let i = line(s, lines::marked(s, 0));
-    let j = line(s, lines::marked(s, 1));
-    let k = line(s, lines::marked(s, 2));
+    let i = lines::marked(s, 0);
+    let j = lines::marked(s, 1);
+    let k = lines::marked(s, 2);
     let mut x = laid(i);
     let mut y = laid(j);
     let mut z = laid(k);

@@ -1,6 +1,5 @@
 -- Laws that the functions' proofs cite.
 pub mod Passes
 pub mod Deciding
-pub mod PartLaws
 pub mod TagLaws
 pub mod PublicLaws

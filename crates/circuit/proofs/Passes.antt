@@ -6,7 +6,6 @@
 -- slot_same, slot_other              a slot after a store, for a position with the label of i, and with another
 -- Lowest, lowest_none, lowest_more, lowest_all   the first pass: a label's slot holds its lowest position from k on
 -- ahead_more                         the second pass: a turn keeps the slots ahead
--- Filled, filled_none, filled_more, filled_all   a table that is filled downward
 --
 -- Assumes nothing.
 use mathlib.Core.Path.{◌≡◌, sym, ap, ◌∙◌}
@@ -18,13 +17,12 @@ use native.Mathlib.Decide.{ℕ_discrete}
 use native.Mathlib.Numerals.{add-one}
 use native.Mathlib.Omega.{arith}
 use lib.Dec.{eqb}
-use lib.ListN.{length, get_or, set, length-set}
-use lib.Seq.{get_or-set_same, get_or-set_other, ext_get_or}
+use lib.ListN.{length, get_or, set}
+use lib.Seq.{get_or-set_same, get_or-set_other}
 use borrow.Author.Tests.{lt-ltb, le-ltb, eq-eqb, ne_eqb}
 use Rattle.algebra.specs.Modular.{first}
-use Rattle.algebra.specs.Lists.{tab}
 use Rattle.algebra.specs.Search.{first_stop, first_skip, first_end}
-use Rattle.algebra.specs.Tables.{length-tab, get_or-tab, all_get_d}
+use Rattle.algebra.specs.Tables.{all_get_d}
 use Rattle.circuit.specs.Circuit.{permutation}
 use Rattle.circuit.specs.Ahead.{or_lowest, next_from, Ahead, Labels}
 
@@ -99,23 +97,3 @@ ahead_more labels slots i k s h fits A = record { next = λ j u. go j u (ℕ_dis
         → get_or (set slots (get_or labels i 0) i) (get_or labels j 0) 0 ≡ next_from (length labels) (label labels) (get_or labels j 0) i
     go j u (yes e) = slot_same labels slots i fits j i e ∙ sym (next_here (length labels) (label labels) (get_or labels j 0) i h e)
     go j u (no e) = slot_other labels slots i fits j i e ∙ A.next j u ∙ sym (next_skip (length labels) (label labels) (get_or labels j 0) i k s h e)
-
--- A TABLE FILLED DOWNWARD
-
-pub record Filled (f : ℕ → ℕ) (k : ℕ) (out : List ℕ) : Type 0 where
-  pub right : (j : ℕ) → k ≤ j → j < length out → get_or out j 0 ≡ f j
-
-pub filled_none : (f : ℕ → ℕ) (k : ℕ) (out : List ℕ) → length out ≤ k → Filled f k out
-filled_none f k out h = record { right = λ j l u. absurd (omega arith) }
-
-pub filled_more : (f : ℕ → ℕ) (i k v : ℕ) (out : List ℕ) → i + 1 ≡ k → i < length out → v ≡ f i → Filled f k out → Filled f i (set out i v)
-filled_more f i k v out s h e F = record { right = λ j l u. go j l (simp length-set at u) (ℕ_discrete j i) }
-  where
-    go : (j : ℕ) → i ≤ j → j < length out → Dec (j ≡ i) → get_or (set out i v) j 0 ≡ f j
-    go j l u (yes w) = rw w (get_or-set_same out i v 0 h ∙ e)
-    go j l u (no w) = get_or-set_other out i j v 0 w ∙ F.right j (omega arith) u
-
-pub filled_all : (f : ℕ → ℕ) (out : List ℕ) → Filled f 0 out → out ≡ tab f (length out)
-filled_all f out F =
-    ext_get_or 0 out (tab f (length out)) (sym (length-tab f (length out)))
-    (λ i h. F.right i (omega arith) h ∙ sym (get_or-tab f (length out) i h))

@@ -14,9 +14,8 @@
 use Rattle.std.specs.Prelude.{◌≡◌, Bool, cond, ◌&&◌, ◌||◌, List, ℕ, ◌+◌, ◌*◌, eqb, length, get_or, take, drop}
 use Rattle.std.specs.Borrow.{Bor}
 use Rattle.algebra.specs.Lists.{tab}
-use Rattle.field.specs.declared.Answer.{Answer}
 use Rattle.field.specs.Fields.{is_rows}
-use Rattle.field.specs.Reasons.{answer_of, is_accepted}
+use Rattle.field.specs.Reasons.{Answer, answer_of, is_accepted}
 use Rattle.circuit.specs.Circuit.{permutation}
 use Rattle.circuit.specs.Buffers.{labels_length, prepared_length, wire_length, z_length, quotient_length, transcript_length, blinded_by, prepared_start, wire_start, z_start, t_start, by_number}
 use Rattle.circuit.specs.Reasons.{permutation_reasons}

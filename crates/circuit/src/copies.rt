@@ -1,30 +1,18 @@
 // The copy permutation in linear time: the positions are passed downward twice, with a slot for each label.
-ghost use Rattle.std.specs.Prelude.{◌≡◌, ◌<◌, ◌≤◌, length, get_or, set};
+ghost use Rattle.std.specs.Prelude.{◌≡◌, ◌<◌, ◌≤◌, length, get_or};
 ghost use Rattle.algebra.specs.Lists.{tab};
 ghost use Rattle.circuit.specs.Circuit.{permutation};
 ghost use Rattle.circuit.specs.Ahead.{Ahead, Labels};
 
-// What a slot held, with another number put in its place.
-fn exchange(slots: &mut [u32], at: usize, number: u32) -> u32
-    requires { at < length slots.old }
-    ensures value { result ≡ get_or slots.old at 0 }
-    ensures slots_after { slots.new ≡ set slots.old at number }
-{
-    let held = slots[at];
-    slots[at] = number;
-    held
-}
+use std::mem;
 
 // The first pass: each label's slot gets its lowest position, as the last that is put there.
 pub fn lowest(labels: &[u32], slots: &mut [u32])
     requires { Labels labels.now × (length labels.now ≤ length slots.old) }
     ensures { Ahead labels.now (length labels.now) slots.new }
 {
-    let mut k = labels.len();
-    while 0 < k {
-        k -= 1;
-        let at = labels[k] as usize;
-        slots[at] = k as u32;
+    for k in (0..labels.len()).rev() {
+        slots[labels[k] as usize] = k as u32;
     }
 }
 
@@ -34,11 +22,8 @@ fn follow(labels: &[u32], slots: &mut [u32], out: &mut [u32])
     requires ahead { Ahead labels.now (length labels.now) slots.old }
     ensures { out.new ≡ tab (permutation (length labels.now) (λ k. get_or labels.now k 0)) (length labels.now) }
 {
-    let mut k = labels.len();
-    while 0 < k {
-        k -= 1;
-        let at = labels[k] as usize;
-        out[k] = exchange(slots, at, k as u32);
+    for k in (0..labels.len()).rev() {
+        out[k] = mem::replace(&mut slots[labels[k] as usize], k as u32);
     }
 }
 
@@ -47,7 +32,7 @@ pub fn fill_permutation(labels: &[u32], out: &mut [u32])
     requires { Labels labels.now × (length out.old ≡ length labels.now) }
     ensures { out.new ≡ tab (permutation (length labels.now) (λ k. get_or labels.now k 0)) (length labels.now) }
 {
-    let mut slots = field::positions_room();
+    let mut slots: [u32; field::POSITIONS_ROOM] = field::room();
     lowest(labels, &mut slots);
     follow(labels, &mut slots, out);
 }

@@ -71,8 +71,7 @@ pub fn counted(e: usize, table: &[usize]) -> &[usize]
     requires { (e ≤ 1) × (length table.now ≡ 8) }
     ensures { result.now ≡ take (7 + e) table.now }
 {
-    let end = 7 + e;
-    &table[0..end]
+    &table[..7 + e]
 }
 
 // `prove`, and `prove_blinded` where e is 1: selectors, labels, witness, public inputs, transcript, challenges, the blinders of the latter, scratch.

@@ -1,7 +1,6 @@
 // How many numbers the lent buffers have for n rows, and where the polynomials start in them. The number e is 1 where the transcript is blinded, else 0. (The
 // scratch of the transforms and of `prepare` has its length in `transform`.)
 ghost use Rattle.std.specs.Prelude.{◌≡◌, ◌<◌, ◌≤◌, length};
-ghost use Rattle.field.specs.Rooms.{rows_room};
 ghost use Rattle.circuit.specs.Buffers.{prepared_count, selectors_length, labels_length, witness_length, prepared_length, wire_length, z_length, quotient_length, f_length, transcript_length, opening_length, work_length, blinded_by, prepared_start, wire_start, z_start, t_start};
 
 // The selectors of a row.
@@ -35,7 +34,7 @@ pub const POLYNOMIAL_COUNT: usize = 13;
 pub const BLINDER_COUNT: usize = 9;
 
 // The coefficients of a prepared circuit of the greatest number of rows.
-const PREPARED_ROOM: usize = PREPARED_COUNT * field::ROWS_ROOM;
+pub const PREPARED_ROOM: usize = PREPARED_COUNT * field::ROWS_ROOM;
 
 pub fn selectors_length(n: usize) -> usize
     requires { n < 4294967296 }
@@ -44,6 +43,7 @@ pub fn selectors_length(n: usize) -> usize
     SELECTOR_COUNT * n
 }
 
+// Of the labels: one for each position.
 pub fn labels_length(n: usize) -> usize
     requires { n < 4294967296 }
     ensures { result ≡ labels_length n }
@@ -51,6 +51,7 @@ pub fn labels_length(n: usize) -> usize
     3 * n
 }
 
+// Of the witness: a wire value for each position. That it is as long as the labels is how it is lent, and no law of theirs.
 pub fn witness_length(n: usize) -> usize
     requires { n < 4294967296 }
     ensures { result ≡ witness_length n }
@@ -86,10 +87,7 @@ pub fn quotient_length(e: usize, n: usize) -> usize
     requires { (e ≤ 1) × (n < 4294967296) }
     ensures { result ≡ quotient_length e n }
 {
-    if n == 0 {
-        return 9 * e;
-    }
-    3 * n - 3 + 9 * e
+    (3 * n).saturating_sub(3) + 9 * e
 }
 
 // The coefficients of F: n more than t has.
@@ -105,18 +103,7 @@ pub fn opening_length(e: usize, n: usize) -> usize
     requires { (e ≤ 1) × (n < 4294967296) }
     ensures { result ≡ opening_length e n }
 {
-    let t = quotient_length(e, n);
-    if t == 0 {
-        return 0;
-    }
-    t - 1
-}
-
-// Room for a prepared circuit of the greatest number of rows, for a caller that lends parts of it on. What it holds does not matter.
-pub fn prepared_room() -> [u32; PREPARED_ROOM]
-    ensures { prepared_length rows_room ≡ length result }
-{
-    [0; PREPARED_ROOM]
+    quotient_length(e, n).saturating_sub(1)
 }
 
 // Where polynomial s of a prepared circuit starts.
@@ -171,8 +158,5 @@ pub fn blinded_by(n: usize, transcript: &[u32]) -> usize
     requires { n < 4294967296 }
     ensures { (result ≡ blinded_by n transcript.now) × (result ≤ 1) }
 {
-    if transcript.len() == transcript_length(1, n) {
-        return 1;
-    }
-    0
+    usize::from(transcript.len() == transcript_length(1, n))
 }

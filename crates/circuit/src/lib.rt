@@ -4,11 +4,11 @@
 #![tactic(auto)]
 
 ghost use Rattle.std.specs.Prelude.{◌≡◌};
-ghost use Rattle.field.specs.Reasons.{answer_of};
+ghost use Rattle.field.specs.Reasons.{told, answer_of};
 ghost use Rattle.circuit.specs.Reasons.{permutation_reasons};
 ghost use Rattle.circuit.specs.Promises.{Permutes, polynomial_part, Hands};
 
-use field::Answer;
+use field::Refusal;
 
 mod copies;
 pub mod due;
@@ -22,8 +22,8 @@ mod witness;
 
 pub use copies::{fill_permutation, lowest};
 pub use lengths::{
-    BLINDER_COUNT, POLYNOMIAL_COUNT, PREPARED_COUNT, SELECTOR_COUNT, WIRED_NUMBER, blinded_by,
-    f_length, labels_length, opening_length, prepared_length, prepared_room, quotient_length,
+    BLINDER_COUNT, POLYNOMIAL_COUNT, PREPARED_COUNT, PREPARED_ROOM, SELECTOR_COUNT, WIRED_NUMBER,
+    blinded_by, f_length, labels_length, opening_length, prepared_length, quotient_length,
     selectors_length, t_start, transcript_length, wire_length, witness_length, work_length,
     z_length, z_start,
 };
@@ -31,37 +31,30 @@ pub use parts::{any_rows, prepared_part, t_part, wire_part, z_part};
 pub use publics::{public_of, public_polynomial};
 pub use reasons::{decide_block, decide_filled, decide_numbers};
 pub use selectors::unbound_row;
-pub use tags::{factor_of, multiplier_of, own_tags, wired_tags};
+pub use tags::{factor_of, multiplier_of, tags_in_place, wired_tags};
 pub use witness::{column_values, lay_by_rows, wire_value, wire_values};
 
 // Why a call of `permutation` is turned down, if it is. Nothing is written.
-fn decide(p: u32, n: u32, labels: &[u32], positions: &[u32]) -> Answer
-    ensures { result ≡ answer_of (permutation_reasons p n labels.now positions.now) }
+fn decide(p: u32, n: u32, labels: &[u32], positions: &[u32]) -> Result<(), Refusal>
+    ensures { told result ≡ answer_of (permutation_reasons p n labels.now positions.now) }
 {
     let long = [labels.len(), positions.len()];
     let due = due::permutation(n as usize);
-    let answer = field::decide_lent(p, n, 0, &long, &due);
-    let number = answer.number;
-    if number != 0 {
-        return answer;
-    }
+    field::decide_lent(p, n, 0, &long, &due)?;
     reasons::decide_labels(n, labels)
 }
 
 // The position that the copy permutation leads to from each of the 3n positions.
-pub fn permutation(p: u32, n: u32, labels: &[u32], positions: &mut [u32]) -> Answer
-    ensures { Permutes p n labels.now positions.old result positions.new }
+pub fn permutation(p: u32, n: u32, labels: &[u32], positions: &mut [u32]) -> Result<(), Refusal>
+    ensures { Permutes p n labels.now positions.old (told result) positions.new }
 {
-    let answer = decide(p, n, labels, positions);
-    let number = answer.number;
-    if number == 0 {
-        fill_permutation(labels, positions);
-    }
-    answer
+    decide(p, n, labels, positions)?;
+    fill_permutation(labels, positions);
+    Ok(())
 }
 
-// Polynomial `number` of the lent buffers: those of the prepared circuit come first, then the wires, z and t of the transcript, which may be blinded. The empty part
-// at the transcript's start stands for any other number, and where n or a length is wrong.
+// Polynomial `number` of the lent buffers: those of the prepared circuit come first, then the wires, z and t of the transcript, which may be
+// blinded. The empty part at the transcript's start stands for any other number, and where n or a length is wrong.
 pub fn polynomial<'a>(n: u32, number: u32, prepared: &'a [u32], transcript: &'a [u32]) -> &'a [u32]
     ensures { Hands (polynomial_part n number prepared.entry transcript.entry) result }
 {

@@ -1,5 +1,5 @@
 // The polynomials in lent buffers: each as a part of its buffer, and by number.
-ghost use Rattle.std.specs.Prelude.{◌≡◌, ◌-◌, ◌≤◌, ◌<◌, length};
+ghost use Rattle.std.specs.Prelude.{◌≡◌, ◌+◌, ◌-◌, ◌≤◌, ◌<◌, length};
 ghost use Rattle.circuit.specs.Buffers.{prepared_count, prepared_length, wire_length, z_length, t_start, t_part, transcript_length};
 ghost use Rattle.circuit.specs.Promises.{any_rows, prepared_place, wire_place, z_place, numbered_part, Hands};
 
@@ -14,15 +14,22 @@ pub fn any_rows(n: u32) -> bool
     field::is_rows(17, n) || field::is_rows(97, n) || field::is_rows(2013265921, n)
 }
 
+// `count` numbers of a buffer, from the one at `start` on.
+fn piece(buffer: &[u32], start: usize, count: usize) -> &[u32]
+    requires { start + count ≤ length buffer.now }
+    ensures hands { Hands (record { buffer = buffer.entry; start = start; count = count }) result }
+    ensures result_len { length result.now ≡ count }
+{
+    &buffer[start..start + count]
+}
+
 // Polynomial s of a prepared circuit.
 pub fn prepared_part(n: usize, s: usize, prepared: &[u32]) -> &[u32]
     requires { (n ≤ 1024) × (s < prepared_count) × (prepared_length n ≤ length prepared.now) }
     ensures hands { Hands (prepared_place n s prepared.entry) result }
     ensures result_len { length result.now ≡ n }
 {
-    let at = lengths::prepared_start(n, s);
-    let end = at + n;
-    &prepared[at..end]
+    piece(prepared, lengths::prepared_start(n, s), n)
 }
 
 // The wire of a column, of a transcript or of its first part, which ends where t starts.
@@ -31,9 +38,11 @@ pub fn wire_part(e: usize, n: usize, column: usize, transcript: &[u32]) -> &[u32
     ensures hands { Hands (wire_place e n column transcript.entry) result }
     ensures result_len { length result.now ≡ wire_length e n }
 {
-    let at = lengths::wire_start(e, n, column);
-    let end = at + lengths::wire_length(e, n);
-    &transcript[at..end]
+    piece(
+        transcript,
+        lengths::wire_start(e, n, column),
+        lengths::wire_length(e, n),
+    )
 }
 
 // z of a transcript or of its first part.
@@ -42,9 +51,7 @@ pub fn z_part(e: usize, n: usize, transcript: &[u32]) -> &[u32]
     ensures hands { Hands (z_place e n transcript.entry) result }
     ensures result_len { length result.now ≡ z_length e n }
 {
-    let at = lengths::z_start(e, n);
-    let end = lengths::t_start(e, n);
-    &transcript[at..end]
+    piece(transcript, lengths::z_start(e, n), lengths::z_length(e, n))
 }
 
 // t of a transcript: what stands behind z.
@@ -53,8 +60,7 @@ pub fn t_part(e: usize, n: usize, transcript: &[u32]) -> &[u32]
     ensures hands { Hands (record { buffer = transcript.entry; start = t_start e n; count = length transcript.now - t_start e n }) result }
     ensures result_value { result.now ≡ t_part e n transcript.now }
 {
-    let at = lengths::t_start(e, n);
-    &transcript[at..]
+    &transcript[lengths::t_start(e, n)..]
 }
 
 // Polynomial `number` of buffers of the right lengths, n being the number of rows.

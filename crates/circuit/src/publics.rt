@@ -9,20 +9,15 @@ ghost use Rattle.circuit.specs.Publics.{LentPublics};
 pub fn public_of(publics: &[u32], i: usize) -> u32
     ensures { result ≡ lent_public publics.now i }
 {
-    if i < publics.len() {
-        return publics[i];
-    }
-    0
+    publics.get(i).copied().unwrap_or(0)
 }
 
 // The public inputs of as many rows as `out` has words.
 fn fill_publics(publics: &[u32], out: &mut [u32])
     ensures { out.new ≡ tab (lent_public publics.now) (length out.old) }
 {
-    let mut i = 0;
-    while i < out.len() {
-        out[i] = public_of(publics, i);
-        i += 1;
+    for (i, word) in out.iter_mut().enumerate() {
+        *word = public_of(publics, i);
     }
 }
 

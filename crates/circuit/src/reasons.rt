@@ -1,30 +1,34 @@
 // Reasons for turning a call down that several calls share. Nothing is written.
 ghost use Rattle.std.specs.Prelude.{◌≡◌, List, [], ◌∷◌, ◌++◌, ℕ, ◌≤◌, length};
-ghost use Rattle.field.specs.Reasons.{answer_of, reason_at, lent_reasons};
+ghost use Rattle.field.specs.Reasons.{told, answer_of, reason_at, lent_reasons};
 ghost use Rattle.field.specs.Lent.{Lent};
 ghost use Rattle.circuit.specs.Circuit.{lent_constraints};
 ghost use Rattle.circuit.specs.Buffers.{selectors_length};
 ghost use Rattle.circuit.specs.Reasons.{bad_label, bad_public_row, is_block, bad_block, circuit_reasons, number_reasons};
 ghost use Rattle.circuit.specs.Countable.{Countable};
 
-use field::Answer;
+use field::{Cause, Refusal};
 
 // The reason of the labels, 8.
-pub fn decide_labels(n: u32, labels: &[u32]) -> Answer
+pub fn decide_labels(n: u32, labels: &[u32]) -> Result<(), Refusal>
     requires { (n ≤ 1024) × (length labels.now ≤ 65536) }
-    ensures { result ≡ answer_of (bad_label n labels.now ∷ []) }
+    ensures { told result ≡ answer_of (bad_label n labels.now ∷ []) }
 {
-    field::decide_at(8, field::first_above(3 * n, labels), labels.len())
+    field::decide_at(
+        Cause::Label,
+        field::first_above(3 * n, labels),
+        labels.len(),
+    )
 }
 
 // The reason of the public rows, 14.
-fn decide_public_rows(n: u32, l: u32, selectors: &[u32]) -> Answer
+fn decide_public_rows(n: u32, l: u32, selectors: &[u32]) -> Result<(), Refusal>
     requires { (n ≤ 1024) × (l ≤ n) × (length selectors.now ≡ selectors_length n) }
-    ensures { (labels : List ℕ) → result ≡ answer_of (bad_public_row (lent_constraints n selectors.now labels) l ∷ []) }
+    ensures { (labels : List ℕ) → told result ≡ answer_of (bad_public_row (lent_constraints n selectors.now labels) l ∷ []) }
 {
     let count = l as usize;
     let row = super::selectors::unbound_row(selectors, 0, 1, n as usize, count);
-    field::decide_at(14, row, count)
+    field::decide_at(Cause::PublicRow, row, count)
 }
 
 // A block length of n rows: a power of two that divides n. The count of ones tells a power of two.
@@ -36,25 +40,21 @@ fn is_block(n: u32, block: u32) -> bool
 }
 
 // The reason of the block length, 17.
-pub fn decide_block(n: u32, block: u32) -> Answer
-    ensures { result ≡ answer_of (bad_block n block ∷ []) }
+pub fn decide_block(n: u32, block: u32) -> Result<(), Refusal>
+    ensures { told result ≡ answer_of (bad_block n block ∷ []) }
 {
     if is_block(n, block) {
-        return field::accepted();
+        return Ok(());
     }
-    field::refused(17, 0)
+    field::refused(Cause::Block, 0)
 }
 
 // The reasons of the circuit, 8 and 14.
-fn decide_circuit(n: u32, l: u32, selectors: &[u32], labels: &[u32]) -> Answer
+fn decide_circuit(n: u32, l: u32, selectors: &[u32], labels: &[u32]) -> Result<(), Refusal>
     requires { (n ≤ 1024) × (l ≤ n) × (length selectors.now ≡ selectors_length n) × (length labels.now ≤ 65536) }
-    ensures { result ≡ answer_of (circuit_reasons n l selectors.now labels.now) }
+    ensures { told result ≡ answer_of (circuit_reasons n l selectors.now labels.now) }
 {
-    let first = decide_labels(n, labels);
-    let number = first.number;
-    if number != 0 {
-        return first;
-    }
+    decide_labels(n, labels)?;
     decide_public_rows(n, l, selectors)
 }
 
@@ -67,16 +67,12 @@ pub fn decide_numbers(
     count: usize,
     selectors: &[u32],
     labels: &[u32],
-) -> Answer
+) -> Result<(), Refusal>
     requires n_bound { (n ≤ 1024) × (l ≤ n) × (count ≤ 65536) }
     requires selectors_len { (length selectors.now ≡ selectors_length n) × (length labels.now ≤ 65536) }
-    ensures { result ≡ answer_of (reason_at 7 at count ∷ circuit_reasons n l selectors.now labels.now) }
+    ensures { told result ≡ answer_of (reason_at 7 at count ∷ circuit_reasons n l selectors.now labels.now) }
 {
-    let elements = field::decide_at(7, at, count);
-    let number = elements.number;
-    if number != 0 {
-        return elements;
-    }
+    field::decide_at(Cause::Element, at, count)?;
     decide_circuit(n, l, selectors, labels)
 }
 
@@ -94,16 +90,12 @@ pub fn decide_filled(
     publics: &[u32],
     more: &[u32],
     last: &[u32],
-) -> Answer
+) -> Result<(), Refusal>
     requires long_len { (length long.now ≡ length due.now) × (length due.now ≤ 16) }
     requires countable { Lent p n l long.now due.now → Countable n selectors.now labels.now witness.now publics.now more.now last.now }
-    ensures { result ≡ answer_of (lent_reasons p n l long.now due.now ++ number_reasons p n l (selectors.now ++ (witness.now ++ (publics.now ++ (more.now ++ last.now)))) selectors.now labels.now) }
+    ensures { told result ≡ answer_of (lent_reasons p n l long.now due.now ++ number_reasons p n l (selectors.now ++ (witness.now ++ (publics.now ++ (more.now ++ last.now)))) selectors.now labels.now) }
 {
-    let answer = field::decide_lent(p, n, l, long, due);
-    let number = answer.number;
-    if number != 0 {
-        return answer;
-    }
+    field::decide_lent(p, n, l, long, due)?;
     let at = field::first_of_four(p, selectors, witness, publics, more);
     let four = selectors.len() + witness.len() + publics.len() + more.len();
     let place = field::then_above(p, at, four, last);

@@ -8,19 +8,7 @@ ghost use Rattle.circuit.specs.Selectors.{is_public_at, unbound_in, Spaced};
 fn is_public(ql: u32, qr: u32, qo: u32, qm: u32, qc: u32) -> bool
     ensures { result ≡ is_public ql qr qo qm qc }
 {
-    if ql != 1 {
-        return false;
-    }
-    if qr != 0 {
-        return false;
-    }
-    if qo != 0 {
-        return false;
-    }
-    if qm != 0 {
-        return false;
-    }
-    qc == 0
+    ql == 1 && qr == 0 && qo == 0 && qm == 0 && qc == 0
 }
 
 // Whether the words from `at` on, which stand `apart` from one another, are the selectors of a public row.
@@ -43,14 +31,10 @@ pub fn unbound_row(words: &[u32], start: usize, step: usize, apart: usize, l: us
     requires { Spaced words.now start step apart l }
     ensures { result ≡ unbound_in words.now start step apart l }
 {
-    let mut i = 0;
-    let mut at = start;
-    while i < l {
-        if !is_public_at(words, apart, at) {
+    for i in 0..l {
+        if !is_public_at(words, apart, start + i * step) {
             return i;
         }
-        at += step;
-        i += 1;
     }
-    i
+    l
 }

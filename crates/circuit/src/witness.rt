@@ -17,10 +17,8 @@ pub fn wire_values(n: usize, witness: &[u32], out: &mut [u32])
     requires { (n ≤ 1024) × (length witness.now ≡ witness_length n) × (length out.old ≡ 3 * n) }
     ensures { out.new ≡ tab (lent_witness n witness.now) (3 * n) }
 {
-    let mut k = 0;
-    while k < out.len() {
-        out[k] = wire_value(n, witness, k / n, k % n);
-        k += 1;
+    for (k, word) in out.iter_mut().enumerate() {
+        *word = wire_value(n, witness, k / n, k % n);
     }
 }
 
@@ -29,10 +27,8 @@ pub fn column_values(n: usize, witness: &[u32], column: usize, out: &mut [u32])
     requires { (n ≤ 1024) × (column < 3) × (length witness.now ≡ witness_length n) × (length out.old ≡ n) }
     ensures { out.new ≡ tab (λ i. lent_witness n witness.now (position n column i)) n }
 {
-    let mut i = 0;
-    while i < out.len() {
-        out[i] = wire_value(n, witness, column, i);
-        i += 1;
+    for (i, word) in out.iter_mut().enumerate() {
+        *word = wire_value(n, witness, column, i);
     }
 }
 
@@ -41,9 +37,7 @@ pub fn lay_by_rows(n: usize, values: &[u32], out: &mut [u32])
     requires { (n ≤ 1024) × (length values.now ≡ witness_length n) × (length out.old ≡ witness_length n) }
     ensures { out.new ≡ laid_witness n (λ k. get_or values.now k 0) }
 {
-    let mut j = 0;
-    while j < out.len() {
-        out[j] = values[(j % 3) * n + j / 3];
-        j += 1;
+    for (j, word) in out.iter_mut().enumerate() {
+        *word = values[(j % 3) * n + j / 3];
     }
 }

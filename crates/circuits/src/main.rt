@@ -12,6 +12,7 @@ fn every_size(rt: HostRuntime, p: u32, greatest: u32)
     requires { greatest ≤ 1024 }
 {
     let mut n: u32 = 2;
+    // Stays a while: n doubles, and a `for` over its exponents would be no plainer.
     while n <= greatest {
         random_cases::there_and_back(rt, p, n);
         if p != 97 {

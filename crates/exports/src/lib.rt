@@ -40,7 +40,7 @@ pub fn guppyspoon_inverse(p: u32, x: u32, answer: &mut [u32])
     ensures { Handed inverted_words (λ r. Inverts p x r) answer.old answer.new }
 {
     let r = field::inverse(p, x);
-    words::put_inverted(r, answer);
+    words::put_outcome(r, answer);
 }
 
 // `transform::evaluate`: the values of a polynomial of n coefficients at the n domain points.
@@ -55,7 +55,7 @@ pub fn guppyspoon_evaluate(
     ensures { Handed answer_words (λ r. Transforms p n (evaluation p n) coefficients.now values.old scratch.old r values.new scratch.new) answer.old answer.new }
 {
     let r = transform::evaluate(p, n, coefficients, values, scratch);
-    words::put_answer(r, answer);
+    words::put_outcome(r, answer);
 }
 
 // `transform::interpolate`: the one polynomial of n coefficients with the given values at the n domain points.
@@ -70,7 +70,7 @@ pub fn guppyspoon_interpolate(
     ensures { Handed answer_words (λ r. Transforms p n (λ v. interpolation p n (coef v)) values.now coefficients.old scratch.old r coefficients.new scratch.new) answer.old answer.new }
 {
     let r = transform::interpolate(p, n, values, coefficients, scratch);
-    words::put_answer(r, answer);
+    words::put_outcome(r, answer);
 }
 
 // `circuit::permutation`: the position that the copy permutation leads to from each of the 3n positions.
@@ -84,7 +84,7 @@ pub fn guppyspoon_permutation(
     ensures { Handed answer_words (λ r. Permutes p n labels.now positions.old r positions.new) answer.old answer.new }
 {
     let r = circuit::permutation(p, n, labels, positions);
-    words::put_answer(r, answer);
+    words::put_outcome(r, answer);
 }
 
 // `preparing::prepare`: the prepared circuit.
@@ -101,7 +101,7 @@ pub fn guppyspoon_prepare(
     ensures { Handed answer_words (λ r. Prepares p n l selectors.now labels.now written.old scratch.old r written.new scratch.new) answer.old answer.new }
 {
     let r = preparing::prepare(p, n, l, selectors, labels, written, scratch);
-    words::put_answer(r, answer);
+    words::put_outcome(r, answer);
 }
 
 // `rowcheck::check_rows`: whether the three identities hold at every row, and where not, at which first.
@@ -120,7 +120,7 @@ pub fn guppyspoon_check_rows(
     ensures { Handed row_words (λ r. ChecksRows p n l selectors.now labels.now witness.now publics.now z.now challenges.now r) answer.old answer.new }
 {
     let r = rowcheck::check_rows(p, n, l, selectors, labels, witness, publics, z, challenges);
-    words::put_rows(r, answer);
+    words::put_outcome(r, answer);
 }
 
 // `pointcheck::check_point`: whether a lent transcript answers for a prepared circuit at one point.
@@ -138,7 +138,7 @@ pub fn guppyspoon_check_point(
     ensures { Handed point_words (λ r. PointChecks p n l publics.now prepared.now transcript.now challenges.now scratch.old r scratch.new) answer.old answer.new }
 {
     let r = pointcheck::check_point(p, n, l, publics, prepared, transcript, challenges, scratch);
-    words::put_point(r, answer);
+    words::put_outcome(r, answer);
 }
 
 // `opening::open`: the evaluations at a point of the polynomials that a list names, and their opening polynomial.
@@ -167,7 +167,7 @@ pub fn guppyspoon_open<'a>(
         challenges,
         scratch,
     );
-    words::put_answer(r, answer);
+    words::put_outcome(r, answer);
 }
 
 // `opening::check_opening`: whether lent evaluations and a lent opening polynomial are right, as polynomials.
@@ -196,7 +196,7 @@ pub fn guppyspoon_check_opening<'a>(
         challenges,
         scratch,
     );
-    words::put_point(r, answer);
+    words::put_outcome(r, answer);
 }
 
 // `prover::prove`: the transcript a, b, c, z, t of a witness that satisfies its circuit.
@@ -218,7 +218,7 @@ pub fn guppyspoon_prove(
     let r = prover::prove(
         p, n, l, selectors, labels, witness, publics, transcript, challenges, scratch,
     );
-    words::put_answer(r, answer);
+    words::put_outcome(r, answer);
 }
 
 // `prover::prove_blinded`: the same, blinded by nine numbers.
@@ -241,7 +241,7 @@ pub fn guppyspoon_prove_blinded(
     let r = prover::prove_blinded(
         p, n, l, selectors, labels, witness, publics, transcript, challenges, blinders, scratch,
     );
-    words::put_answer(r, answer);
+    words::put_outcome(r, answer);
 }
 
 // `losses::lost_gammas`: how many gammas a beta loses to reason 11.
@@ -255,8 +255,7 @@ pub fn guppyspoon_lost_gammas(
     ensures { Handed counted_words (λ r. LosesGammas p n witness.now challenges.now r) answer.old answer.new }
 {
     let r = losses::lost_gammas(p, n, witness, challenges);
-    let a = r.answer;
-    words::put_count(a, r.count, answer);
+    words::put_outcome(r, answer);
 }
 
 // `sheet::read`: the numbers of a sheet, laid out as they are lent for 256 rows.
@@ -272,7 +271,7 @@ pub fn guppyspoon_read(
     ensures { Handed sheet_words (λ r. Reads sheet.now selectors.old labels.old witness.old publics.old challenges.old r selectors.new labels.new witness.new publics.new challenges.new) answer.old answer.new }
 {
     let r = sheet::read(sheet, selectors, labels, witness, publics, challenges);
-    words::put_sheet(r, answer);
+    words::put_outcome(r, answer);
 }
 
 // `transfer::to_rows`: contents that stand column after column, as they were lent before request 8 of document 02, row by row.
@@ -280,7 +279,7 @@ pub fn guppyspoon_to_rows(n: u32, columns: &[u32], rows: &mut [u32], answer: &mu
     ensures { Handed answer_words (λ r. Transfers n (to_rows n) columns.now rows.old r rows.new) answer.old answer.new }
 {
     let r = transfer::to_rows(n, columns, rows);
-    words::put_answer(r, answer);
+    words::put_outcome(r, answer);
 }
 
 // `transfer::to_columns`: contents that stand row by row, column after column.
@@ -288,7 +287,7 @@ pub fn guppyspoon_to_columns(n: u32, rows: &[u32], columns: &mut [u32], answer: 
     ensures { Handed answer_words (λ r. Transfers n (to_columns n) rows.now columns.old r columns.new) answer.old answer.new }
 {
     let r = transfer::to_columns(n, rows, columns);
-    words::put_answer(r, answer);
+    words::put_outcome(r, answer);
 }
 
 // `archive::deposit`: the text of a sheet's deposit.
@@ -296,8 +295,7 @@ pub fn guppyspoon_deposit(sheet: &[u8], text: &mut [u8], answer: &mut [u32])
     ensures { Handed deposited_words (λ r. Deposits sheet.now text.old r text.new) answer.old answer.new }
 {
     let r = archive::deposit(sheet, text);
-    let a = r.answer;
-    words::put_count(a, r.length as u32, answer);
+    words::put_outcome(words::in_word(r), answer);
 }
 
 // `joining::join`: the sheet of two sheets' circuits and what they are filled with.
@@ -305,6 +303,5 @@ pub fn guppyspoon_join(one: &[u8], two: &[u8], joined: &mut [u8], answer: &mut [
     ensures { Handed joined_words (λ r. Joins one.now two.now joined.old r joined.new) answer.old answer.new }
 {
     let r = joining::join(one, two, joined);
-    let a = r.answer;
-    words::put_count(a, r.length as u32, answer);
+    words::put_outcome(words::in_word(r), answer);
 }

@@ -1,61 +1,73 @@
-// Answers as words at the start of a lent buffer. A word for which the buffer has no room is left out.
-ghost use Rattle.std.specs.Prelude.{◌≡◌, set};
-ghost use Rattle.exports.specs.Answers.{over, answer_words, is_there, inverse_word, inverted_words, identity_word, verdict_word, verdict_row, row_words, judged_word, point_words, said_word, sheet_words, count_words};
+// What calls answer, as words at the start of a lent buffer. A word for which the buffer has no room is left out.
+ghost use Rattle.std.specs.Prelude.{◌≡◌, ◌<◌, Option, List, ℕ, ◌∷◌};
+ghost use Rattle.field.specs.Reasons.{outcome, given};
+ghost use Rattle.exports.specs.Answers.{over, outcome_words, nothing_behind, inverse_behind, identity_word, verdict_word, verdict_row, row_behind, judged_word, point_behind, sheet_behind, count_behind};
 
-use field::{Answer, InverseOf, Inverted};
-use pointcheck::{Judged, PointAnswer};
-use rowcheck::{Identity, RowAnswer, Verdict};
-use sheet::SheetAnswer;
+use field::Refusal;
+use pointcheck::Judged;
+use rowcheck::{Identity, Verdict};
+use sheet::Sheet;
 
 // A word that is no element of any field: what stands where there is no inverse.
 const NO_ELEMENT: u32 = 4294967295;
 
-// x at a place of the buffer, where it has that place.
-fn put(buffer: &mut [u32], place: usize, x: u32)
-    ensures { buffer.new ≡ set buffer.old place x }
+// The words over the start of a buffer.
+fn lay(words: &[u32], buffer: &mut [u32])
+    ensures { buffer.new ≡ over words.now buffer.old }
 {
-    if place < buffer.len() {
-        buffer[place] = x;
+    let k = words.len().min(buffer.len());
+    buffer[..k].copy_from_slice(&words[..k]);
+}
+
+// What a call gives, none where it is turned down. Its words stand behind the answer's number and detail.
+pub trait Behind {
+    ghost behind: { Self → List ℕ };
+
+    fn put(self, buffer: &mut [u32])
+        ensures { buffer.new ≡ over (behind self) buffer.old };
+}
+
+// A number, a detail, and the words behind them.
+fn put_behind<T>(number: u32, detail: u32, given: Option<T>, buffer: &mut [u32])
+where
+    Option<T>: Behind,
+    ensures { buffer.new ≡ over (number ∷ detail ∷ ⟦<Option<T> as Behind>⟧.behind given) buffer.old }
+{
+    let (head, rest) = buffer.split_at_mut(buffer.len().min(2));
+    lay(&[number, detail], head);
+    given.put(rest);
+}
+
+// What a call answers: the number and the detail of its refusal, 0 and 0 where it is accepted, and the words behind them.
+pub fn put_outcome<T>(r: Result<T, Refusal>, buffer: &mut [u32])
+where
+    Option<T>: Behind,
+    ensures { buffer.new ≡ over (outcome_words ⟦<Option<T> as Behind>⟧.behind (outcome r)) buffer.old }
+{
+    match r {
+        Ok(given) => put_behind(0, 0, Some(given), buffer),
+        Err(e) => put_behind::<T>(e.cause.number(), e.detail, None, buffer),
     }
 }
 
-// The number and the detail.
-pub fn put_answer(r: Answer, buffer: &mut [u32])
-    ensures { buffer.new ≡ over (answer_words r) buffer.old }
-{
-    put(buffer, 0, r.number);
-    put(buffer, 1, r.detail);
+// A call that gives nothing: no words.
+impl Behind for Option<()> {
+    ghost behind = { nothing_behind };
+
+    fn put(self, _buffer: &mut [u32]) {}
 }
 
-// 1 where there is an inverse, 0 where there is none.
-fn is_there(i: InverseOf) -> u32
-    ensures { result ≡ is_there i }
-{
-    match i {
-        InverseOf::None => 0,
-        InverseOf::Is(_) => 1,
+// Whether there is an inverse, 1 or 0, and the inverse, or NO_ELEMENT.
+impl Behind for Option<Option<u32>> {
+    ghost behind = { inverse_behind };
+
+    fn put(self, buffer: &mut [u32]) {
+        let inverse = self.flatten();
+        lay(
+            &[u32::from(inverse.is_some()), inverse.unwrap_or(NO_ELEMENT)],
+            buffer,
+        );
     }
-}
-
-// The inverse; NO_ELEMENT where there is none.
-fn inverse_word(i: InverseOf) -> u32
-    ensures { result ≡ inverse_word i }
-{
-    match i {
-        InverseOf::None => NO_ELEMENT,
-        InverseOf::Is(y) => y,
-    }
-}
-
-// The number, the detail, whether there is an inverse, and the inverse.
-pub fn put_inverted(r: Inverted, buffer: &mut [u32])
-    ensures { buffer.new ≡ over (inverted_words r) buffer.old }
-{
-    let a = r.answer;
-    let i = r.value;
-    put_answer(a, buffer);
-    put(buffer, 2, is_there(i));
-    put(buffer, 3, inverse_word(i));
 }
 
 // The word of a failing identity.
@@ -70,85 +82,81 @@ fn identity_word(id: Identity) -> u32
 }
 
 // The word of a row verdict.
-fn verdict_word(v: Verdict) -> u32
+fn verdict_word(v: Option<Verdict>) -> u32
     ensures { result ≡ verdict_word v }
 {
     match v {
-        Verdict::None => 0,
-        Verdict::Pass => 1,
-        Verdict::Fails(id, _) => identity_word(id),
+        None => 0,
+        Some(Verdict::Pass) => 1,
+        Some(Verdict::Fails(id, _)) => identity_word(id),
     }
 }
 
 // The row of a row verdict; 0 where no row fails.
-fn verdict_row(v: Verdict) -> u32
+fn verdict_row(v: Option<Verdict>) -> u32
     ensures { result ≡ verdict_row v }
 {
     match v {
-        Verdict::None => 0,
-        Verdict::Pass => 0,
-        Verdict::Fails(_, row) => row,
+        Some(Verdict::Fails(_, row)) => row,
+        _ => 0,
     }
 }
 
-// The number, the detail, the word of the verdict and its row.
-pub fn put_rows(r: RowAnswer, buffer: &mut [u32])
-    ensures { buffer.new ≡ over (row_words r) buffer.old }
-{
-    let a = r.answer;
-    let v = r.verdict;
-    put_answer(a, buffer);
-    put(buffer, 2, verdict_word(v));
-    put(buffer, 3, verdict_row(v));
+// The word of the verdict and its row.
+impl Behind for Option<Verdict> {
+    ghost behind = { row_behind };
+
+    fn put(self, buffer: &mut [u32]) {
+        lay(&[verdict_word(self), verdict_row(self)], buffer);
+    }
 }
 
 // The word of a point verdict.
-fn judged_word(v: Judged) -> u32
+fn judged_word(v: Option<Judged>) -> u32
     ensures { result ≡ judged_word v }
 {
     match v {
-        Judged::None => 0,
-        Judged::Accept => 1,
-        Judged::Reject => 2,
+        None => 0,
+        Some(Judged::Accept) => 1,
+        Some(Judged::Reject) => 2,
     }
 }
 
-// The number, the detail and the word of the verdict.
-pub fn put_point(r: PointAnswer, buffer: &mut [u32])
-    ensures { buffer.new ≡ over (point_words r) buffer.old }
-{
-    let a = r.answer;
-    let v = r.verdict;
-    put_answer(a, buffer);
-    put(buffer, 2, judged_word(v));
-}
+// The word of the verdict.
+impl Behind for Option<Judged> {
+    ghost behind = { point_behind };
 
-// 1 for yes, 0 for no.
-fn said_word(b: bool) -> u32
-    ensures { result ≡ said_word b }
-{
-    if b {
-        return 1;
+    fn put(self, buffer: &mut [u32]) {
+        lay(&[judged_word(self)], buffer);
     }
-    0
 }
 
-// The number, the detail, p, n, l and whether there was a line of blinders.
-pub fn put_sheet(r: SheetAnswer, buffer: &mut [u32])
-    ensures { buffer.new ≡ over (sheet_words r) buffer.old }
-{
-    let a = r.answer;
-    put_answer(a, buffer);
-    put(buffer, 2, r.p);
-    put(buffer, 3, r.n);
-    put(buffer, 4, r.l);
-    put(buffer, 5, said_word(r.blinded));
+// p, n, l and whether there is a line of blinders, 1 or 0.
+impl Behind for Option<Sheet> {
+    ghost behind = { sheet_behind };
+
+    fn put(self, buffer: &mut [u32]) {
+        let words = match self {
+            None => [0; 4],
+            Some(s) => [s.p, s.n, s.l, u32::from(s.blinded)],
+        };
+        lay(&words, buffer);
+    }
 }
 
-// The number, the detail and a count, or the length of what was written.
-pub fn put_count(r: Answer, count: u32, buffer: &mut [u32])
-    ensures { buffer.new ≡ over (count_words r count) buffer.old }
+// A count, or the length of what was written.
+impl Behind for Option<u32> {
+    ghost behind = { count_behind };
+
+    fn put(self, buffer: &mut [u32]) {
+        lay(&[self.unwrap_or(0)], buffer);
+    }
+}
+
+// A number of bytes as a word.
+pub fn in_word(r: Result<usize, Refusal>) -> Result<u32, Refusal>
+    requires { given (outcome r) < 4294967296 }
+    ensures { result ≡ r }
 {
-    put_answer(r, buffer);
-    put(buffer, 2, count);
+    Ok(r? as u32)
 }

@@ -7,19 +7,20 @@
 -- lent_taken                where Lent holds, none of them applies
 -- lent_refused, lent_later, lent_known   a call that begins with these reasons, `is` being the table that its code has: it is turned down by them; it goes on to
 --                           the reasons behind them; and what it knows then
+-- ok_lent_later, ok_lent   the last two of what a call answers
 -- lengths_same              tables of one length that differ nowhere are equal
 -- lengths_none              equal tables are no reason
 --
 -- Assumes nothing.
-use Rattle.std.specs.Prelude.{◌≡◌, refl, ◌≢◌, Bool, false, not, ◌||◌, List, [], ◌∷◌, ◌++◌, ℕ, ◌≤◌, eqb, ltb, length, get_or}
+use Rattle.std.specs.Prelude.{◌≡◌, refl, ◌≢◌, Bool, false, not, ◌||◌, List, [], ◌∷◌, ◌++◌, ℕ, ◌≤◌, eqb, ltb, length, get_or, Result, Ok}
 use Rattle.std.proofs.Common.{sym, ap, ◌∙◌, arith, ext_get_or, eqb-true, ltb-false, le-ltb}
 use Rattle.std.proofs.lemmas.Bool.{not-true, not-false, eqb-false}
 use Rattle.algebra.specs.Lists.{All}
 use Rattle.algebra.specs.Search.{first_is, first_none, both_false}
-use Rattle.field.specs.declared.Answer.{Answer}
+use Rattle.field.specs.declared.refusal.Refusal.{Refusal}
 use Rattle.field.specs.Fields.{is_field, is_rows, greatest_rows, Admissible}
 use Rattle.field.specs.Primes.{rows-power}
-use Rattle.field.specs.Reasons.{Reason, answer_of, shape_reasons, first_other, bad_lengths, lent_reasons}
+use Rattle.field.specs.Reasons.{Answer, told, Reason, answer_of, shape_reasons, first_other, bad_lengths, lent_reasons}
 use Rattle.field.specs.ReasonLaws.{none_applies, taken, both_none, both_taken, refused_first, refused_later}
 
 pub record Shape (p n l most : ℕ) : Type 0 where
@@ -104,3 +105,12 @@ module _ (p n l : ℕ) (long due : List ℕ) (rest : List Reason) {is : List ℕ
 
   pub lent_known : a.number ≡ 0 → length long ≡ length due → Lent p n l long due
   lent_known z m = lent_of p n l long due m (sym (ap (λ (b : Answer). b.number) decided) ∙ z)
+
+-- the same of what a call answers
+module _ (p n l : ℕ) (long due : List ℕ) (rest : List Reason) {is : List ℕ} (e : is ≡ due) {A : Type 0} {r : Result A Refusal}
+    (h : told r ≡ answer_of (lent_reasons p n l long is)) where
+  pub ok_lent_later : {x : A} → r ≡ Ok x → {b : Answer} → b ≡ answer_of rest → b ≡ answer_of (lent_reasons p n l long due ++ rest)
+  ok_lent_later z u = lent_later p n l long due rest e h (ap (λ (a : Answer). a.number) (ap told z)) u
+
+  pub ok_lent : {x : A} → r ≡ Ok x → length long ≡ length due → Lent p n l long due
+  ok_lent z m = lent_known p n l long due rest e h (ap (λ (a : Answer). a.number) (ap told z)) m

@@ -4,6 +4,9 @@
 -- taken             where no reason of the list applies, the answer is number 0, detail 0
 -- numbers_append    of two lists of reasons, none has number 0
 -- answer_of-append  of two lists of reasons: the answer of the first, unless none of its reasons applies
+-- told_refused      what a refusal tells is not number 0
+-- ok_number         where a call is not turned down, what it tells is number 0
+-- ok_told, ok_value  a call that tells number 0, or gives a value, is not turned down
 -- both_none         an answer of two lists with number 0: so is that of each
 -- both_taken        where both answers are number 0, detail 0, so is that of the two lists
 -- refused_first, refused_later   the same for a call that answers by the first list where one of its reasons applies, and else by the second
@@ -20,7 +23,7 @@
 -- further           the same for a call that has passed the first list and goes on with the second
 --
 -- Assumes nothing.
-use Rattle.std.specs.Prelude.{◌≡◌, refl, ◌≢◌, Bool, true, cond, List, [], ◌∷◌, ◌++◌, ℕ, ◌+◌, ◌-◌, ◌≤◌, ◌<◌, eqb, ltb, get_or}
+use Rattle.std.specs.Prelude.{◌≡◌, refl, ◌≢◌, Bool, true, cond, List, [], ◌∷◌, ◌++◌, ℕ, ◌+◌, ◌-◌, ◌≤◌, ◌<◌, eqb, ltb, get_or, Result, Ok, Err, Some, IsOk}
 use Rattle.std.proofs.Common.{sym, ap₂, ◌∙◌, subst, get_or-append-add, ltb-false, leb-false, leb-true, eqb-true, lt-ltb, le-ltb, eq-eqb, ne_eqb}
 use Rattle.std.proofs.Math.Path.{ap}
 use Rattle.std.proofs.Math.Bool.{false}
@@ -32,9 +35,11 @@ use Rattle.std.proofs.lemmas.Bool.{not-false, eqb-false}
 use Rattle.algebra.specs.Lists.{All}
 use Rattle.algebra.specs.Search.{First, first_is, first_none, first_same}
 use Rattle.algebra.specs.Tables.{all_get_d, all_of}
-use Rattle.field.specs.declared.Answer.{Answer}
+use Rattle.field.specs.declared.refusal.Cause.{Cause}
+use Rattle.field.specs.declared.refusal.Cause.TheVariants as cause
+use Rattle.field.specs.declared.refusal.Refusal.{Refusal}
 use Rattle.field.specs.Fields.{is_current}
-use Rattle.field.specs.Reasons.{Reason, answer_of, is_accepted, bad_field, retired_field, first_above, straight_after, prime_reasons, current_only}
+use Rattle.field.specs.Reasons.{Answer, number_of, told, outcome, Reason, answer_of, is_accepted, bad_field, retired_field, first_above, straight_after, prime_reasons, current_only}
 
 pub none_applies : (rs : List Reason) → All (λ r. r.number ≢ 0) rs → (answer_of rs).number ≡ 0 → All (λ r. r.applies ≡ false) rs
 none_applies [] n e = tt
@@ -73,6 +78,39 @@ pub refused_later : (rs ss : List Reason) → All (λ r. r.number ≢ 0) rs → 
     → b ≡ answer_of (rs ++ ss)
 refused_later rs ss n a b e h f =
     rw (answer_of-append rs ss n, eq-eqb (answer_of rs).number 0 (sym (ap (λ (b : Answer). b.number) e) ∙ h)) f
+
+pub told_refused : (e : Refusal) → number_of e.cause ≡ 0 → ⊥
+told_refused e h = omega (arith, numbered e.cause)
+  where
+    numbered : (c : Cause) → 0 < number_of c
+    numbered cause.Sheet = omega arith
+    numbered cause.Prime = omega arith
+    numbered cause.Rows = omega arith
+    numbered cause.Publics = omega arith
+    numbered cause.Line = omega arith
+    numbered cause.Length = omega arith
+    numbered cause.Element = omega arith
+    numbered cause.Label = omega arith
+    numbered cause.Gate = omega arith
+    numbered cause.Copy = omega arith
+    numbered cause.Factor = omega arith
+    numbered cause.List = omega arith
+    numbered cause.Polynomial = omega arith
+    numbered cause.PublicRow = omega arith
+    numbered cause.Unlike = omega arith
+    numbered cause.Retired = omega arith
+    numbered cause.Block = omega arith
+
+pub ok_number : {A : Type 0} {r : Result A Refusal} {x : A} {a : Answer} → r ≡ Ok x → told r ≡ a → a.number ≡ 0
+ok_number i h = ap (λ (a : Answer). a.number) (sym h ∙ ap told i)
+
+pub ok_told : {A : Type 0} (r : Result A Refusal) → (told r).number ≡ 0 → IsOk r
+ok_told (Ok a) h = refl
+ok_told (Err e) h = absurd (told_refused e h)
+
+pub ok_value : {A : Type 0} (r : Result A Refusal) {x : A} → (outcome r).value ≡ Some x → r ≡ Ok x
+ok_value (Ok a) {x} h = let same : a ≡ x = cc in ap Ok same
+ok_value (Err e) h = cc
 
 pub both_none : (rs ss : List Reason) → All (λ r. r.number ≢ 0) rs → (answer_of (rs ++ ss)).number ≡ 0
     → ((answer_of rs).number ≡ 0) × ((answer_of ss).number ≡ 0)

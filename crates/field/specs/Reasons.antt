@@ -1,5 +1,11 @@
 -- Why a call is turned down. Each call has an ordered list of reasons, and its answer is the first that applies.
 --
+-- Answer              a number and a detail, as document 01 has them
+-- number_of c         the number of a cause, the code's name of a reason
+-- told r              what the result r of a call tells: number 0 and detail 0 (accepted), or those of the refusal
+-- Outcome A           an answer, and what a call gives: none if refused
+-- outcome r           the result r of a call, as its answer and what it gives
+-- given r             the number that an outcome gives; 0 if refused
 -- Reason              a number of document 01, its detail, and whether it applies
 -- answer_of rs        the number and detail of the first reason that applies; number 0, detail 0 (accepted) where none does
 -- is_accepted a       the answer's number is 0
@@ -18,18 +24,57 @@
 -- prime_reasons p     2 and 16: the reasons of a prime that is to be proved with
 -- current_only p rs   the reasons rs of a call that takes only primes that may be proved with: 16 straight after 2
 -- inverse_reasons p x the reasons of `inverse`
--- inverse_as o        the inverse as the enum of `inverse`
--- Inverts p x r       what `inverse` promises of its answer r
+-- inverse_as o        the inverse as code has it
+-- Inverts p x r       what `inverse` promises of its outcome r
 --
 -- Assumes nothing.
 use Rattle.std.specs.Prelude.{◌≡◌, Bool, not, cond, ◌||◌, List, [], ◌∷◌, ◌++◌, ℕ, suc, eqb, leb, ltb, length, get_or}
-use Rattle.std.proofs.Math.Option.{Option, none, some}
+use Rattle.std.specs.Prelude.{Option, None, Some, Result, Ok, Err}
+use Rattle.std.specs.Option.{unwrap_or}
+use Rattle.std.proofs.Math.Option as math
 use Rattle.algebra.specs.Modular.{first, inverse}
-use Rattle.field.specs.declared.Answer.{Answer}
-use Rattle.field.specs.declared.InverseOf.{InverseOf}
-use Rattle.field.specs.declared.InverseOf.TheVariants.{None, Is}
-use Rattle.field.specs.declared.Inverted.{Inverted}
+use Rattle.field.specs.declared.refusal.Cause.{Cause}
+use Rattle.field.specs.declared.refusal.Cause.TheVariants as cause
+use Rattle.field.specs.declared.refusal.Refusal.{Refusal}
 use Rattle.field.specs.Fields.{is_field, is_current, is_rows, greatest_rows}
+
+pub record Answer : Type 0 where
+  pub number : ℕ
+  pub detail : ℕ
+
+abbrev pub number_of : Cause → ℕ
+number_of cause.Sheet = 1
+number_of cause.Prime = 2
+number_of cause.Rows = 3
+number_of cause.Publics = 4
+number_of cause.Line = 5
+number_of cause.Length = 6
+number_of cause.Element = 7
+number_of cause.Label = 8
+number_of cause.Gate = 9
+number_of cause.Copy = 10
+number_of cause.Factor = 11
+number_of cause.List = 12
+number_of cause.Polynomial = 13
+number_of cause.PublicRow = 14
+number_of cause.Unlike = 15
+number_of cause.Retired = 16
+number_of cause.Block = 17
+
+abbrev pub told : {A : Type 0} → Result A Refusal → Answer
+told (Ok a) = record { number = 0; detail = 0 }
+told (Err e) = record { number = number_of e.cause; detail = e.detail }
+
+pub record Outcome (A : Type 0) : Type 0 where
+  pub answer : Answer
+  pub value : Option A
+
+abbrev pub outcome : {A : Type 0} → Result A Refusal → Outcome A
+outcome (Ok a) = record { answer = record { number = 0; detail = 0 }; value = Some a }
+outcome (Err e) = record { answer = record { number = number_of e.cause; detail = e.detail }; value = None }
+
+abbrev pub given : Outcome ℕ → ℕ
+given r = unwrap_or r.value 0
 
 pub record Reason : Type 0 where
   pub number : ℕ
@@ -91,10 +136,10 @@ current_only p rs = straight_after 2 (retired_field p) rs
 abbrev pub inverse_reasons : ℕ → ℕ → List Reason
 inverse_reasons p x = bad_field p ∷ bad_element p (x ∷ []) ∷ []
 
-abbrev pub inverse_as : Option ℕ → InverseOf
-inverse_as none = None
-inverse_as (some y) = Is y
+abbrev pub inverse_as : math.Option ℕ → Option ℕ
+inverse_as math.none = None
+inverse_as (math.some y) = Some y
 
-pub record Inverts (p x : ℕ) (r : Inverted) : Type 0 where
+pub record Inverts (p x : ℕ) (r : Outcome (Option ℕ)) : Type 0 where
   pub answer : r.answer ≡ answer_of (inverse_reasons p x)
-  pub value : r.value ≡ cond (is_accepted r.answer) (inverse_as (inverse p x)) None
+  pub value : r.value ≡ cond (is_accepted r.answer) (Some (inverse_as (inverse p x))) None

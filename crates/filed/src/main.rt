@@ -9,55 +9,43 @@
 // the sheet is taken as a new one.
 #![tactic(auto)]
 
-use blocks::words::{put, within};
-use case_tools::buffers::{Words, part};
+use blocks::words::{first, first_mut, put};
+use case_tools::buffers::Words;
 use case_tools::circuits::Shape;
 use case_tools::{buffers, circuits, print};
+use field::Refusal;
 use pointcheck::Judged;
-use streams::Got;
+use sheet::Sheet;
 
 // Whether these bytes stand at a place of a text.
 fn says(text: &[u8], at: usize, bytes: &[u8]) -> bool {
-    if text.len() < at {
-        return false;
-    }
-    let rest = &text[at..];
-    if rest.len() < bytes.len() {
-        return false;
-    }
-    for i in 0..bytes.len() {
-        if rest[i] != bytes[i] {
-            return false;
-        }
-    }
-    true
+    text.get(at..).is_some_and(|rest| rest.starts_with(bytes))
 }
 
 // A line that is out of form: a word that is no element stands at the polynomial's end, so that every call refuses the transcript, and no verdict stands
 // behind it.
 fn out_of_form(text: &[u8], words: &mut [u32], end: usize) -> usize {
-    put(words, std::num::wrapping_sub_usize(end, 1), 4294967295);
+    put(words, end.wrapping_sub(1), 4294967295);
     text.len()
 }
 
 // The coefficients of a polynomial, which stand on a line behind a letter and a comma, written from a place on; where the next line starts.
 fn polynomial(text: &[u8], at: usize, words: &mut [u32], place: usize, count: usize) -> usize {
-    let mut read = buffers::room();
-    let k = within(&read, count);
-    if k == 0 {
+    let mut room: Words = field::room();
+    let read = first_mut(&mut room, count);
+    if read.is_empty() {
         return at;
     }
-    let start = std::num::wrapping_add_usize(at, 2);
-    let end = std::num::wrapping_add_usize(place, count);
+    let start = at.wrapping_add(2);
+    let end = place.wrapping_add(count);
     if archive::TEXT_LENGTH < text.len() || text.len() < start {
         return out_of_form(text, words, end);
     }
-    let line = text::line(text, start, &mut read[..k]);
-    if !line.ok {
+    let Some(next) = text::line(text, start, read) else {
         return out_of_form(text, words, end);
-    }
-    buffers::lay(part(&read, 0, k), words, place);
-    line.next
+    };
+    buffers::lay(read, words, place);
+    next
 }
 
 // The transcript of a text: a, b, c, z and t; where the verdict stands behind them.
@@ -74,22 +62,22 @@ fn transcript(s: Shape, text: &[u8], words: &mut [u32]) -> usize {
     polynomial(text, t, words, t_at, circuit::quotient_length(e, n))
 }
 
-// Whether a text has this verdict at a place.
-fn is_due(text: &[u8], at: usize, v: &Judged) -> bool {
-    match v {
-        Judged::None => false,
-        Judged::Accept => says(text, at, b"accept\n"),
-        Judged::Reject => says(text, at, b"reject\n"),
+// Whether a text has this verdict at a place. There is none where the call was turned down.
+fn is_due(text: &[u8], at: usize, r: Result<Judged, Refusal>) -> bool {
+    match r {
+        Ok(Judged::Accept) => says(text, at, b"accept\n"),
+        Ok(Judged::Reject) => says(text, at, b"reject\n"),
+        Err(_) => false,
     }
 }
 
 // What `deposit` prints for the sheet: a refusal of its prime, the text that was filed, or another one.
 fn print_deposited(rt: HostRuntime, sheet: &[u8], filed: &[u8]) {
-    let mut text = archive::text_room();
-    let made = archive::deposit(sheet, &mut text);
-    let is_filed = made.length == filed.len() && says(&text, 0, filed);
+    let mut text: [u8; archive::TEXT_LENGTH] = field::room();
+    let end = archive::deposit(sheet, &mut text).unwrap_or(0);
+    let is_filed = first(&text, end) == filed;
     print::word(rt, b"deposit");
-    if says(&text, 0, b"refused,16,0\n") {
+    if text.starts_with(b"refused,16,0\n") {
         print::word(rt, b"refused,16,0");
     } else {
         print::either(rt, is_filed, b"as filed", b"another text");
@@ -98,29 +86,27 @@ fn print_deposited(rt: HostRuntime, sheet: &[u8], filed: &[u8]) {
 
 // The line on the sheet as a new one: what the prover answers, what `deposit` prints, and what `join` answers where the sheet is joined to itself.
 fn print_new(rt: HostRuntime, s: Shape, words: &Words, sheet: &[u8], filed: &[u8]) {
-    let mut transcript = buffers::room();
-    let mut scratch = buffers::room();
-    let mut joined = joining::joined_room();
+    let mut transcript: Words = field::room();
+    let mut scratch: Words = field::room();
+    let mut joined: [u8; joining::JOINED_ROOM] = field::room();
     let proved = circuits::prove(s, words, &mut transcript, &mut scratch);
     print::text(rt, b"as a new sheet");
     print::either(rt, s.blinded, b"prove_blinded", b"prove");
-    print::answer(rt, proved);
+    print::answer(rt, &proved);
     print_deposited(rt, sheet, filed);
     let made = joining::join(sheet, sheet, &mut joined);
-    let answer = made.answer;
     print::word(rt, b"join");
-    print::answer(rt, answer);
+    print::answer(rt, &made);
     print::text(rt, b"\n");
 }
 
 // The lines of a deposit, from p on. The filed verdict stands at a place of its text.
 fn print_lines(rt: HostRuntime, s: Shape, words: &Words, sheet: &[u8], text: &[u8], at: usize) {
     let end = circuits::WITNESS + 3 * (s.n as usize);
-    let v = circuits::point(s, words);
-    let due = is_due(text, at, &v);
+    let r = circuits::point(s, words);
     print::numbers(rt, &[s.p, s.n, s.l]);
-    circuits::print_judged(rt, v);
-    print::either(rt, due, b"as filed", b"NOT AS FILED");
+    circuits::print_judged(rt, r);
+    print::either(rt, is_due(text, at, r), b"as filed", b"NOT AS FILED");
     circuits::print_points(rt, s, words);
     circuits::print_rows(rt, s, words);
     circuits::change_t(rt, s, words);
@@ -132,9 +118,27 @@ fn print_lines(rt: HostRuntime, s: Shape, words: &Words, sheet: &[u8], text: &[u
     print_new(rt, s, words, sheet, text);
 }
 
+// The numbers of a sheet; all 0 where it is turned down.
+fn shape(found: Result<Sheet, Refusal>) -> Shape {
+    match found {
+        Ok(sheet) => Shape {
+            p: sheet.p,
+            n: sheet.n,
+            l: sheet.l,
+            blinded: sheet.blinded,
+        },
+        Err(_) => Shape {
+            p: 0,
+            n: 0,
+            l: 0,
+            blinded: false,
+        },
+    }
+}
+
 // The lines of a deposit, behind the sheet's name.
 fn judge(rt: HostRuntime, sheet: &[u8], text: &[u8]) {
-    let mut words = buffers::room();
+    let mut words: Words = field::room();
     let mut selectors = [0u32; 1280];
     let mut labels = [0u32; 768];
     let mut witness = [0u32; 768];
@@ -148,49 +152,37 @@ fn judge(rt: HostRuntime, sheet: &[u8], text: &[u8]) {
         &mut publics,
         &mut drawn,
     );
-    let answer = found.answer;
-    let s = Shape {
-        p: found.p,
-        n: found.n,
-        l: found.l,
-        blinded: found.blinded,
-    };
+    let s = shape(found);
     buffers::lay(&selectors, &mut words, 0);
     buffers::lay(&labels, &mut words, circuits::LABELS);
     buffers::lay(&witness, &mut words, circuits::WITNESS);
     buffers::lay(&publics, &mut words, circuits::PUBLICS);
     buffers::lay(&drawn, &mut words, circuits::CHALLENGES);
     let at = transcript(s, text, &mut words);
-    print::answer(rt, answer);
+    print::answer(rt, &found);
     print_lines(rt, s, &circuits::prepared(s, &words), sheet, text, at);
 }
 
-// The same behind the sheet's name, which is argument i. False where that cannot be printed, or the text is longer than that of any deposit: it is told.
-fn print_judged(rt: HostRuntime, i: usize, sheet: &[u8], text: &[u8]) -> bool {
+// The same behind the sheet's name, which is argument i. None where that cannot be printed, or the text is longer than that of any deposit: it is told.
+fn print_judged(rt: HostRuntime, i: usize, sheet: &[u8], text: &[u8]) -> Option<()> {
     if archive::TEXT_LENGTH < text.len() {
         streams::tell(rt, b"a text is longer than that of any deposit\n");
-        return false;
+        return None;
     }
     let mut name = io::buffer();
-    let n = streams::arg(rt, i, &mut name);
-    if !streams::print(rt, &name[..n]) {
-        return false;
-    }
+    let n = streams::arg(rt, i, &mut name)?;
+    streams::print(rt, &name[..n])?;
     judge(rt, sheet, text);
-    true
+    Some(())
 }
 
-// The deposit whose sheet argument i names, and whose text the next one does. False where one of them cannot be read, or not be judged: what failed is
+// The deposit whose sheet argument i names, and whose text the next one does. None where one of them cannot be read, or not be judged: what failed is
 // told.
-fn judge_filed(rt: HostRuntime, i: usize, next: usize) -> bool {
-    let mut sheet = sheet::sheet_room();
-    let Got::Bytes(n) = streams::read_file(rt, i, &mut sheet) else {
-        return false;
-    };
-    let mut text = sheet::sheet_room();
-    let Got::Bytes(m) = streams::read_file(rt, next, &mut text) else {
-        return false;
-    };
+fn judge_filed(rt: HostRuntime, i: usize, next: usize) -> Option<()> {
+    let mut sheet: [u8; sheet::SHEET_ROOM] = field::room();
+    let n = streams::read_file(rt, i, &mut sheet)?;
+    let mut text: [u8; sheet::SHEET_ROOM] = field::room();
+    let m = streams::read_file(rt, next, &mut text)?;
     print_judged(rt, i, &sheet[..n], &text[..m])
 }
 
@@ -203,9 +195,9 @@ fn main(rt: HostRuntime) {
         );
         return;
     }
-    // those past 65,536 are not looked at
-    let mut i = 1;
-    while i < 65536 && i < end && judge_filed(rt, i, i + 1) {
-        i += 2;
+    for k in 0..end / 2 {
+        if judge_filed(rt, 2 * k + 1, 2 * k + 2).is_none() {
+            return;
+        }
     }
 }

@@ -1,23 +1,17 @@
 // The program `join`: joins the sheets in the two files that its arguments name, and prints the joined sheet, or why there is none.
 #![tactic(auto)]
 
-use streams::Got;
-
 // Prints the joined sheet, or the line of a refusal.
 fn print(rt: HostRuntime, one: &[u8], two: &[u8]) {
-    let mut joined = joining::joined_room();
-    let made = joining::join(one, two, &mut joined);
-    let answer = made.answer;
-    let number = answer.number;
-    let detail = answer.detail;
-    if number == 0 {
-        let end = made.length;
-        streams::print(rt, &joined[..end]);
-    } else {
-        let mut line = [0u8; 30];
-        let end = text::put_refused(number, detail, &mut line);
-        streams::print(rt, &line[..end]);
-    }
+    let mut joined: [u8; joining::JOINED_ROOM] = field::room();
+    match joining::join(one, two, &mut joined) {
+        Ok(end) => streams::print(rt, &joined[..end]),
+        Err(e) => {
+            let mut line = [0u8; 30];
+            let end = text::put_refused(e.cause.number(), e.detail, &mut line);
+            streams::print(rt, &line[..end])
+        }
+    };
 }
 
 fn main(rt: HostRuntime) {
@@ -28,12 +22,12 @@ fn main(rt: HostRuntime) {
         );
         return;
     }
-    let mut one = sheet::sheet_room();
-    let Got::Bytes(n) = streams::read_file(rt, 1, &mut one) else {
+    let mut one: [u8; sheet::SHEET_ROOM] = field::room();
+    let Some(n) = streams::read_file(rt, 1, &mut one) else {
         return;
     };
-    let mut two = sheet::sheet_room();
-    let Got::Bytes(m) = streams::read_file(rt, 2, &mut two) else {
+    let mut two: [u8; sheet::SHEET_ROOM] = field::room();
+    let Some(m) = streams::read_file(rt, 2, &mut two) else {
         return;
     };
     print(rt, &one[..n], &two[..m]);

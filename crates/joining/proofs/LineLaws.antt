@@ -1,7 +1,5 @@
 -- Laws of the lines that are put from the tables.
 --
--- line_part        a part of a table is a line of it, nothing being raised
--- line_plain       a line that ends before the field of the labels is the same, whatever they are raised by
 -- lines_none, lines_turn   lines put one after the other: none, and one more
 -- source_first, source_second   the enum says from which sheet a row comes
 -- first_below, second_below     and its row is below n
@@ -11,51 +9,26 @@
 -- row_long, public_long         how long a line of a row is, and that of a public input
 --
 -- Assumes nothing.
-use mathlib.Core.Path.{◌≡◌, refl, sym, ap, subst, ◌∙◌}
+use mathlib.Core.Path.{◌≡◌, sym, ap, subst}
 use mathlib.Core.Logic.{◌⊎◌, inl, inr}
-use mathlib.Core.Bool.{Bool, true, false, cond, true≢false}
+use mathlib.Core.Bool.{Bool, true, false, true≢false}
 use mathlib.Core.List.{List}
-use Prim.Native.Nat.{ℕ, ◌+◌, ◌*◌, ◌-◌, ◌≤◌, ◌<◌}
+use Prim.Native.Nat.{ℕ, ◌+◌, ◌*◌, ◌≤◌, ◌<◌}
 use native.Mathlib.Numerals.{add-one}
 use native.Mathlib.Omega.{arith}
-use lib.Dec.{ltb}
-use lib.ListN.{length, get_or, take, drop, length-take, length-drop}
-use lib.Seq.{get_or-take, get_or-drop}
-use borrow.Author.Tests.{lt-ltb}
-use Rattle.algebra.specs.Lists.{tab}
-use Rattle.algebra.specs.Tables.{length-tab, tab-get_or, tab_ext}
+use lib.ListN.{length}
+use Rattle.algebra.specs.Tables.{length-tab}
 use Rattle.transform.specs.Parts.{laid}
 use Rattle.text.specs.Text.{line_of}
 use Rattle.text.specs.Puts.{field_bytes, Puts, puts_none, puts_both}
 use Rattle.sheet.specs.Sheet.{label_field, gate_fields}
-use Rattle.sheet.specs.Table.{table_lines, table_length, table_place}
+use Rattle.sheet.specs.Table.{table_lines, table_length}
 use Rattle.sheet.specs.Fits.{line_long}
 use Rattle.joining.specs.declared.rows.Source.{Source}
 use Rattle.joining.specs.declared.rows.Source.TheVariants.{First, Second}
 use Rattle.joining.specs.Joining.{source_row, from_row}
 use Rattle.joining.specs.Rows.{Below, source_below}
-use Rattle.joining.specs.Lines.{source_as, number_in, line_in, Raisable, row_in, RowLines, Tables, public_in}
-
--- A LINE OF A TABLE
-
-pub line_part : (t : List ℕ) (i k from to : ℕ) → from ≡ table_place i 0 → to ≡ table_place i k → table_place i k ≤ length t → take (to - from) (drop from t) ≡ line_in 0 t i k
-line_part t i k from to e f room =
-    let part : List ℕ = take (to - from) (drop from t) in
-    let long : length part ≡ k = simp (length-take, length-drop) (omega arith) in
-    sym (tab-get_or part)
-    ∙ ap (tab (λ j. get_or part j 0)) long
-    ∙ tab_ext (λ j. get_or part j 0) (number_in 0 t i) k (λ j h.
-    get_or-take (to - from) (drop from t) j 0 (omega arith)
-    ∙ get_or-drop from t j 0
-    ∙ ap (λ (m : ℕ). get_or t m 0) (omega arith)
-    ∙ either (ltb j label_field) (get_or t (table_place i j) 0))
-  where
-    either : (b : Bool) (x : ℕ) → x ≡ cond b x (0 + x)
-    either true x = refl
-    either false x = omega arith
-
-pub line_plain : (raise : ℕ) (t : List ℕ) (i k : ℕ) → k ≤ label_field → line_in 0 t i k ≡ line_in raise t i k
-line_plain raise t i k few = tab_ext (number_in 0 t i) (number_in raise t i) k (λ j h. rw (lt-ltb j label_field (omega arith)))
+use Rattle.joining.specs.Lines.{source_as, line_in, Raisable, row_in, RowLines, Tables, public_in}
 
 -- LINES ONE AFTER THE OTHER
 

@@ -4,7 +4,7 @@
 -- Joinable A B        two such sheets of one prime, which may be proved with, and one n, whose doubled n is admissible on a sheet
 -- filled_of           a sheet that is taken is filled
 -- Known               p, n, l and m of the pair r are those of the sheets, and the tables hold their lines
--- Decides             the answer, and where no reason applies, what is known
+-- Decides             the answer, and where no reason applies, the pair and what is known of it
 -- first_refused, second_refused, pair_decided   the answer by the first sheet's reasons, by the second's, by those of the pair
 -- first_retired, second_retired   the answer is 16 where the first sheet is over 97 and its first line is in form, and where no reason of the first applies and the second is
 -- joinable_of         where no reason of `join` applies, the sheets can be joined
@@ -13,7 +13,7 @@
 -- refused_join, made_join   the promise of `join`, where it is turned down and where not
 --
 -- Assumes nothing.
-use Rattle.std.specs.Prelude.{◌≡◌, refl, ◌≢◌, true, false, not, List, [], ◌∷◌, ◌++◌, ℕ, ◌*◌, ◌-◌, ◌≤◌, ◌<◌, eqb, ltb, length, replicate}
+use Rattle.std.specs.Prelude.{◌≡◌, refl, ◌≢◌, true, false, not, List, [], ◌∷◌, ◌++◌, ℕ, ◌*◌, ◌-◌, ◌≤◌, ◌<◌, eqb, ltb, length, replicate, Some, None, MatchOption}
 use Rattle.std.proofs.Common.{sym, ap, ◌∙◌, arith, eqb-true, ltb-false, eq-eqb, ne_eqb}
 use Rattle.std.proofs.Math.Bool.{and-eq-true_iff}
 use Rattle.std.proofs.lemmas.Bool.{not-false}
@@ -21,10 +21,9 @@ use Rattle.algebra.specs.Lists.{All, tab}
 use Rattle.algebra.specs.Polynomial.{Elements}
 use Rattle.algebra.specs.Search.{both_false}
 use Rattle.algebra.specs.Tables.{length-tab, all_left, all_right}
-use Rattle.field.specs.declared.Answer.{Answer}
 use Rattle.field.specs.Fields.{Admissible, is_current, is_rows}
 use Rattle.field.specs.Lent.{lengths_same}
-use Rattle.field.specs.Reasons.{Reason, answer_of, bad_lengths}
+use Rattle.field.specs.Reasons.{Answer, Outcome, Reason, answer_of, bad_lengths}
 use Rattle.field.specs.ReasonLaws.{none_applies, both_none, refused_first, refused_later}
 use Rattle.circuit.specs.Buffers.{selectors_length, witness_length}
 use Rattle.circuit.specs.RightlyLent.{RightCircuit}
@@ -75,9 +74,9 @@ pub record Known (one two : List ℕ) (r : Pair) (t u : List ℕ) : Type 0 where
   pub one_held : HeldAll one (sheet_n one) (sheet_l one) t
   pub two_held : HeldAll two (sheet_n two) (sheet_l two) u
 
-pub record Decides (one two : List ℕ) (room : ℕ) (r : Pair) (t u : List ℕ) : Type 0 where
+pub record Decides (one two : List ℕ) (room : ℕ) (r : Outcome Pair) (t u : List ℕ) : Type 0 where
   pub answer : r.answer ≡ answer_of (join_reasons one two room)
-  pub known : r.answer.number ≡ 0 → Known one two r t u
+  pub known : MatchOption r.value (r.answer.number ≡ 0 → ⊥) (λ pair. Known one two pair t u)
 
 module _ (one two : List ℕ) (room : ℕ) where
   -- the reason of the lengths, and the three parts
@@ -155,11 +154,11 @@ module _ (one two : List ℕ) (room : ℕ) where
 -- THE PROMISE
 
 module _ (one two joined : List ℕ) (a : Answer) (e : a ≡ answer_of (join_reasons one two (length joined))) where
-  pub refused_join : (a.number ≡ 0 → ⊥) → Joins one two joined record { answer = a; length = 0 } joined
+  pub refused_join : (a.number ≡ 0 → ⊥) → Joins one two joined record { answer = a; value = None } joined
   refused_join h = record { answer = e; long = rw (ne_eqb a.number 0 h); written = rw (ne_eqb a.number 0 h) }
 
   pub made_join : a.number ≡ 0 → (end : ℕ) (joined' last : List ℕ) → length joined' ≡ length joined → end ≡ length (joined_text one two)
-      → last ≡ joined_text one two ++ replicate (length joined' - length (joined_text one two)) 0 → Joins one two joined record { answer = a; length = end } last
+      → last ≡ joined_text one two ++ replicate (length joined' - length (joined_text one two)) 0 → Joins one two joined record { answer = a; value = Some end } last
   made_join h end joined' last k at f =
       let long : length joined' ≡ joined_length = k ∙ room_is one two (length joined) (sym (ap (λ (b : Answer). b.number) e) ∙ h) in
-      record { answer = e; long = rw (eq-eqb a.number 0 h) at; written = f ∙ rw (eq-eqb a.number 0 h, long) }
+      record { answer = e; long = rw (eq-eqb a.number 0 h) (ap Some at); written = f ∙ rw (eq-eqb a.number 0 h, long) }

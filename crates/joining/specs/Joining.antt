@@ -20,20 +20,19 @@
 -- pair_reasons           15, and 3 where the doubled n is too great
 -- join_reasons_with L    of `join`: those of the first sheet as a new one, with 6 for the written buffer among them; those of the second; those of the pair
 -- THE PROMISE
--- JoinsWith L            refused: the buffer as it came; accepted: the joined sheet, and zeros behind it
+-- JoinsWith L            refused: no length, and the buffer as it came; accepted: the length of the joined sheet, and in the buffer that sheet, and zeros behind it
 -- BY THE LAYOUT OF TODAY
 -- on_sheet, text_of, joined_numbers, joined_text, join_reasons, Joins   the same, row by row
 --
 -- Assumes nothing.
-use Rattle.std.specs.Prelude.{◌≡◌, ◌⊎◌, Bool, true, false, cond, not, ◌&&◌, List, [], ◌∷◌, ◌++◌, ℕ, ◌+◌, ◌*◌, ◌-◌, ◌/◌, ◌%◌, eqb, ltb, length, get_or, replicate}
+use Rattle.std.specs.Prelude.{◌≡◌, ◌⊎◌, Bool, true, false, cond, not, ◌&&◌, List, [], ◌∷◌, ◌++◌, ℕ, ◌+◌, ◌*◌, ◌-◌, ◌/◌, ◌%◌, eqb, ltb, length, get_or, replicate, Some, None}
 use Rattle.std.proofs.Common.{inl, inr}
 use Rattle.algebra.specs.Lists.{tab}
-use Rattle.field.specs.Reasons.{Reason, answer_of, is_accepted, bad_rows, bad_lengths}
+use Rattle.field.specs.Reasons.{Outcome, Reason, answer_of, is_accepted, bad_rows, bad_lengths}
 use Rattle.circuit.specs.Circuit.{Constraints, Layout, position, lent_constraints, lent_by, laid_by, by_rows, lent_witness, lent_public, Satisfies}
 use Rattle.circuit.specs.Buffers.{selectors_length, labels_length, witness_length}
 use Rattle.sheet.specs.Sheet.{sheet_rows, challenge_count, sheet_p, sheet_n, sheet_l, on_selectors, on_labels, on_witness_with, on_publics, on_challenges, new_reasons_with}
 use Rattle.sheet.specs.Written.{sheet_text_with}
-use Rattle.joining.specs.declared.Joined.{Joined}
 
 -- THE JOINED SHEET
 
@@ -133,9 +132,9 @@ join_reasons_with L one two joined =
 
 -- THE PROMISE
 
-pub record JoinsWith (L : Layout) (one two joined : List ℕ) (r : Joined) (joined' : List ℕ) : Type 0 where
+pub record JoinsWith (L : Layout) (one two joined : List ℕ) (r : Outcome ℕ) (joined' : List ℕ) : Type 0 where
   pub answer : r.answer ≡ answer_of (join_reasons_with L one two (length joined))
-  pub long : r.length ≡ cond (is_accepted r.answer) (length (joined_text_with L one two)) 0
+  pub long : r.value ≡ cond (is_accepted r.answer) (Some (length (joined_text_with L one two))) None
   pub written : joined' ≡ cond (is_accepted r.answer) (joined_text_with L one two ++ replicate (joined_length - length (joined_text_with L one two)) 0) joined
 
 -- BY THE LAYOUT OF TODAY
@@ -155,5 +154,5 @@ joined_text = joined_text_with by_rows
 abbrev pub join_reasons : (one two : List ℕ) (joined : ℕ) → List Reason
 join_reasons = join_reasons_with by_rows
 
-abbrev pub Joins : (one two joined : List ℕ) (r : Joined) (joined' : List ℕ) → Type 0
+abbrev pub Joins : (one two joined : List ℕ) (r : Outcome ℕ) (joined' : List ℕ) → Type 0
 Joins = JoinsWith by_rows

@@ -7,13 +7,11 @@
 -- join_fits               so the length that `join` answers is within the buffer
 --
 -- Assumes nothing.
-use Rattle.std.specs.Prelude.{◌≡◌, refl, Bool, true, false, cond, List, ℕ, ◌+◌, ◌*◌, ◌≤◌, ◌<◌, length}
+use Rattle.std.specs.Prelude.{◌≡◌, refl, Bool, true, false, cond, List, ℕ, ◌+◌, ◌*◌, ◌≤◌, ◌<◌, length, Some, None}
 use Rattle.std.proofs.Common.{sym, ap, ◌∙◌, arith, eqb-true}
-use Rattle.field.specs.declared.Answer.{Answer}
-use Rattle.field.specs.Reasons.{answer_of, is_accepted}
+use Rattle.field.specs.Reasons.{Answer, Outcome, given, answer_of, is_accepted}
 use Rattle.circuit.specs.Circuit.{Circuit, permutation}
 use Rattle.sheet.specs.Sheet.{sheet_p, sheet_n, sheet_l, is_blinded, read_answer, new_answer}
-use Rattle.joining.specs.declared.Joined.{Joined}
 use Rattle.joining.specs.Joining.{on_sheet, constraints_of, Satisfied, from_second, joined_numbers, joined_text, joined_length, join_reasons, Joins}
 use Rattle.joining.specs.Deciding.{Joinable, joinable_of}
 use Rattle.joining.specs.Satisfaction.{joined_circuit, wiring_apart, both_of, joined_of}
@@ -47,11 +45,11 @@ joined_rightly one two room e =
       satisfied = joined_of (on_sheet one) (on_sheet two) joinable;
     }
 
-pub join_fits : (one two joined : List ℕ) (r : Joined) (joined' : List ℕ) → Joins one two joined r joined' → r.length ≤ joined_length
+pub join_fits : (one two joined : List ℕ) (r : Outcome ℕ) (joined' : List ℕ) → Joins one two joined r joined' → given r ≤ joined_length
 join_fits one two joined r joined' J = go (is_accepted r.answer) refl J.long
   where
-    go : (b : Bool) → is_accepted r.answer ≡ b → r.length ≡ cond b (length (joined_text one two)) 0 → r.length ≤ joined_length
+    go : (b : Bool) → is_accepted r.answer ≡ b → r.value ≡ cond b (Some (length (joined_text one two))) None → given r ≤ joined_length
     go true e long =
         let none = ap (λ (a : Answer). a.number) (sym J.answer) ∙ eqb-true r.answer.number 0 e in
-        omega (arith, (joined_rightly one two (length joined) none).fits)
-    go false e long = omega arith
+        rw long ((joined_rightly one two (length joined) none).fits)
+    go false e long = rw long (omega arith)

@@ -16,9 +16,10 @@ fn number(table: &[u32], i: usize, j: usize, raise: u32) -> u32
 {
     let word = table[sheet::table_place(i, j)];
     if j < sheet::LABEL_FIELD {
-        return word;
+        word
+    } else {
+        raise + word
     }
-    raise + word
 }
 
 // The numbers of line i of a table, as many as `line` has, the labels raised.
@@ -26,31 +27,9 @@ fn copy_line(table: &[u32], i: usize, raise: u32, line: &mut [u32])
     requires { Raisable raise table.now i (length line.old) }
     ensures { line.new ≡ line_in raise table.now i (length line.old) }
 {
-    let mut j = 0;
-    while j < line.len() {
+    for j in 0..line.len() {
         line[j] = number(table, i, j, raise);
-        j += 1;
     }
-}
-
-// Line i of a table, which has k numbers, the labels raised.
-fn put_raised(table: &[u32], i: usize, k: usize, raise: u32, out: &mut [u8], at: usize) -> usize
-    requires { Raisable raise table.now i k × (0 < k) × (at + field_bytes * k ≤ length out.old) }
-    ensures { Puts at (line_of (line_in raise table.now i k)) out.old result out.new }
-{
-    let mut line = sheet::line_room();
-    copy_line(table, i, raise, &mut line[..k]);
-    text::put_numbers(&line[..k], out, at)
-}
-
-// The same, nothing being raised: the line is put from the table as it stands.
-fn put_plain(table: &[u32], i: usize, k: usize, out: &mut [u8], at: usize) -> usize
-    requires { (length table.now ≡ table_length) × (i < table_lines) × (k ≤ line_words) × (0 < k) × (at + field_bytes * k ≤ length out.old) }
-    ensures { Puts at (line_of (line_in 0 table.now i k)) out.old result out.new }
-{
-    let from = sheet::table_place(i, 0);
-    let to = sheet::table_place(i, k);
-    text::put_numbers(&table[from..to], out, at)
 }
 
 // Line i of a table, which has k numbers, the labels raised. A line that ends before the labels has none.
@@ -58,13 +37,9 @@ fn put_words(table: &[u32], i: usize, k: usize, raise: u32, out: &mut [u8], at: 
     requires { Raisable raise table.now i k × (0 < k) × (at + field_bytes * k ≤ length out.old) }
     ensures { Puts at (line_of (line_in raise table.now i k)) out.old result out.new }
 {
-    if k <= sheet::LABEL_FIELD {
-        return put_plain(table, i, k, out, at);
-    }
-    if raise == 0 {
-        return put_plain(table, i, k, out, at);
-    }
-    put_raised(table, i, k, raise, out, at)
+    let mut line: [u32; sheet::LINE_WORDS] = field::room();
+    copy_line(table, i, raise, &mut line[..k]);
+    text::put_numbers(&line[..k], out, at)
 }
 
 // The line of row i, which has k numbers: that of the row it comes from, where row 0 of either sheet stands on line `start`. The labels of the second
@@ -106,10 +81,8 @@ fn put_rows(
     ensures { Puts at (laid (λ i. line_of (row_in n l m start k first.now second.now i)) (2 * n)) out.old result out.new }
 {
     let mut next = at;
-    let mut i = 0;
-    while i < 2 * n {
+    for i in 0..2 * n {
         next = put_row(n, l, m, start, k, i, first, second, out, next);
-        i += 1;
     }
     next
 }
@@ -120,10 +93,8 @@ fn put_publics(table: &[u32], n: usize, l: usize, out: &mut [u8], at: usize) -> 
     ensures { Puts at (laid (λ i. line_of (public_in n table.now i)) l) out.old result out.new }
 {
     let mut next = at;
-    let mut i = 0;
-    while i < l {
+    for i in 0..l {
         next = put_words(table, n + n + 1 + i, 1, 0, out, next);
-        i += 1;
     }
     next
 }

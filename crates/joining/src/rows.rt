@@ -13,6 +13,7 @@ pub enum Source {
 
 // The row that stands at row i of the joined sheet: the public rows of the first, those of the second, the other rows of the first, those of
 // the second.
+#[tactic(auto, unfolding(crate::specs::Joining::source_row))]
 pub fn source_of(n: usize, l: usize, m: usize, i: usize) -> Source
     requires { (n ≤ sheet_rows) × (l ≤ n) × (m ≤ n) }
     ensures { result ≡ source_as (source_row n l m i) }

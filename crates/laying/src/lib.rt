@@ -53,10 +53,9 @@ fn lay_wire(
     ensures { out.new ≡ wires_of e p n (lent_witness n witness.now) blinders.now column }
 {
     let m = n as usize;
-    let k = 2 * e;
     let r = blinding::wire_blinder(e, blinders, column);
     lay_column(p, n, powers, witness, column, &mut out[..m], spare);
-    blinding::blind(p, m, &r, k, out);
+    blinding::blind(p, m, &r[..2 * e], out);
 }
 
 // The three wires, end to end.
@@ -75,10 +74,7 @@ fn lay_wires(
     ensures { out.new ≡ laid (wires_of e p n (lent_witness n witness.now) blinders.now) 3 }
 {
     let k = circuit::wire_length(e, n as usize);
-    let mut column = 0;
-    let mut at = 0;
-    while column < 3 {
-        let end = at + k;
+    for column in 0..3 {
         lay_wire(
             e,
             p,
@@ -87,11 +83,9 @@ fn lay_wires(
             witness,
             blinders,
             column,
-            &mut out[at..end],
+            &mut out[column * k..(column + 1) * k],
             spare,
         );
-        at = end;
-        column += 1;
     }
 }
 
@@ -135,7 +129,6 @@ fn lay_z(
     ensures { (selectors : List ℕ) → z_of e p n (lent_constraints n selectors labels.now) (lent_witness n witness.now) blinders.now beta gamma ≡ some out.new }
 {
     let m = n as usize;
-    let k = 3 * e;
     let r = blinding::z_blinder(e, blinders);
     lay_grand(
         p,
@@ -148,7 +141,7 @@ fn lay_z(
         &mut out[..m],
         spare,
     );
-    blinding::blind(p, m, &r, k, out);
+    blinding::blind(p, m, &r[..3 * e], out);
 }
 
 // a, b, c and z end to end, where no factor of any D(i) is 0. The labels alone say where the permutation leads; the selectors play no part.

@@ -2,9 +2,7 @@
 --
 -- Walked numbers k j    the walk that began at k has come to j: j has k's bucket, and no number behind k, up to j, is equal to number k
 -- buckets_labels        the buckets are labels of as many positions
--- linked                where the permutation of these labels leads is what links the numbers
 -- links_long, link_lt   there is a link for each number, and it leads to one
--- walk_start            the walk begins
 -- walk_on               it goes on from j to a higher link that is not equal
 -- walk_met              it has met an equal number: number k stands again behind itself
 -- walk_end              it has come to the last of its bucket: it does not
@@ -24,11 +22,10 @@ use native.Mathlib.Decide.{dec_lt, dec_le}
 use native.Mathlib.Omega.{arith}
 use lib.ListN.{length, get_or, drop, length-drop}
 use lib.Seq.{drop-cons, drop-length, get_or-drop}
-use Rattle.algebra.specs.Lists.{tab, In, occurs, different}
+use Rattle.algebra.specs.Lists.{In, occurs, different}
 use Rattle.algebra.specs.Exact.{in_get_or, get_or_in, occurs_in, in_occurs, different_most}
 use Rattle.algebra.specs.Tables.{length-tab, get_or-tab, all_tab}
 use Rattle.circuit.specs.Ahead.{Labels}
-use Rattle.circuit.specs.Circuit.{permutation}
 use Rattle.circuit.specs.Permutation.{Above, Around, Leads, permutation_leads}
 use Rattle.losses.specs.Buckets.{buckets_of, Linked}
 
@@ -80,21 +77,8 @@ buckets_labels numbers few =
       below = all_tab (λ l. l < length (buckets_of numbers)) _ (length numbers) (λ k h. rw (length_buckets numbers) (mod-lt (get_or numbers k 0) (omega arith)));
     }
 
-pub linked : (numbers labels next : List ℕ) → length numbers ≤ 3072 → labels ≡ buckets_of numbers
-    → next ≡ tab (permutation (length labels) (λ k. get_or labels k 0)) (length labels) → Linked numbers next
-linked numbers labels next few e f =
-    record {
-      few = few;
-      links =
-          f ∙ ap (λ (l : List ℕ). tab (permutation (length l) (λ k. get_or l k 0)) (length l)) e
-          ∙ ap (λ (m : ℕ). tab (permutation m (λ k. get_or (buckets_of numbers) k 0)) m) (length_buckets numbers);
-    }
-
 pub links_long : (numbers next : List ℕ) → Linked numbers next → length next ≡ length numbers
 links_long numbers next L = ap length L.links ∙ length-tab _ (length numbers)
-
-pub walk_start : (numbers : List ℕ) (k : ℕ) → k < length numbers → Walked numbers k k
-walk_start numbers k h = record { low = omega arith; within = h; kept = refl; unmet = λ i a b. absurd (omega arith) }
 
 -- i is where the link of j leads
 module _ (numbers next : List ℕ) (L : Linked numbers next) (j i : ℕ) (link : i ≡ get_or next j 0) where

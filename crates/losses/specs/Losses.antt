@@ -6,12 +6,11 @@
 -- LosesGammas             the same by that of today
 --
 -- Assumes nothing.
-use Rattle.std.specs.Prelude.{◌≡◌, cond, List, [], ◌∷◌, ◌++◌, ℕ, length, get_or}
-use Rattle.field.specs.Reasons.{Reason, answer_of, is_accepted, lent_reasons, bad_element}
+use Rattle.std.specs.Prelude.{◌≡◌, cond, List, [], ◌∷◌, ◌++◌, ℕ, length, get_or, Some, None}
+use Rattle.field.specs.Reasons.{Outcome, Reason, answer_of, is_accepted, lent_reasons, bad_element}
 use Rattle.circuit.specs.Circuit.{Layout, lent_by, by_rows}
 use Rattle.circuit.specs.Buffers.{witness_length}
 use Rattle.protocol.specs.Protocol.{lost_gammas}
-use Rattle.losses.specs.declared.Counted.{Counted}
 
 abbrev pub lost_due : ℕ → List ℕ
 lost_due n = witness_length n ∷ 1 ∷ []
@@ -20,10 +19,10 @@ abbrev pub lost_reasons : (p n : ℕ) (witness challenges : List ℕ) → List R
 lost_reasons p n witness challenges =
     lent_reasons p n 0 (length witness ∷ length challenges ∷ []) (lost_due n) ++ (bad_element p (witness ++ challenges) ∷ [])
 
--- refused: the count is 0; accepted: it is that of the lent beta. All buffers are only read.
-pub record LosesGammasWith (L : Layout) (p n : ℕ) (witness challenges : List ℕ) (r : Counted) : Type 0 where
+-- refused: no count; accepted: it is that of the lent beta. All buffers are only read.
+pub record LosesGammasWith (L : Layout) (p n : ℕ) (witness challenges : List ℕ) (r : Outcome ℕ) : Type 0 where
   pub answer : r.answer ≡ answer_of (lost_reasons p n witness challenges)
-  pub count : r.count ≡ cond (is_accepted r.answer) (lost_gammas p n (lent_by L n witness) (get_or challenges 0 0)) 0
+  pub count : r.value ≡ cond (is_accepted r.answer) (Some (lost_gammas p n (lent_by L n witness) (get_or challenges 0 0))) None
 
-abbrev pub LosesGammas : (p n : ℕ) (witness challenges : List ℕ) (r : Counted) → Type 0
+abbrev pub LosesGammas : (p n : ℕ) (witness challenges : List ℕ) (r : Outcome ℕ) → Type 0
 LosesGammas = LosesGammasWith by_rows

@@ -7,14 +7,15 @@
 --
 -- A call's answer is any that keeps the call's promise: LosesGammas, and Proves in RefusedBy11.
 -- Assumes nothing.
-use Rattle.std.specs.Prelude.{◌≡◌, refl, Bool, true, cond, List, [], ◌∷◌, ◌++◌, ℕ, ◌≤◌, ◌<◌, length}
+use Rattle.std.specs.Prelude.{◌≡◌, refl, Bool, true, cond, List, [], ◌∷◌, ◌++◌, ℕ, ◌≤◌, ◌<◌, length, Some, None}
+use Rattle.std.specs.Option.{unwrap_or}
 use Rattle.std.proofs.Common.{sym, ap, ◌∙◌, subst, arith}
 use Rattle.algebra.specs.Lists.{Exactly}
 use Rattle.algebra.specs.Polynomial.{Elements}
 use Rattle.algebra.specs.Tables.{all_append}
 use Rattle.field.specs.Fields.{Admissible}
 use Rattle.field.specs.Lent.{lent_numbers, lent_taken}
-use Rattle.field.specs.Reasons.{answer_of, is_accepted, lent_reasons, bad_element}
+use Rattle.field.specs.Reasons.{Outcome, given, answer_of, is_accepted, lent_reasons, bad_element}
 use Rattle.field.specs.ReasonLaws.{taken, both_taken, elements_none}
 use Rattle.circuit.specs.Circuit.{Constraints, Circuit, lent_witness, Satisfies}
 use Rattle.circuit.specs.Buffers.{witness_length}
@@ -23,7 +24,6 @@ use Rattle.protocol.specs.Demand3.{ZeroPair}
 use Rattle.protocol.proofs.Demand3.{demand_3}
 use Rattle.witnesses.specs.Accepted.{Honest}
 use Rattle.prover.specs.Refusals.{RefusedBy11, refusals_counted}
-use Rattle.losses.specs.declared.Counted.{Counted}
 use Rattle.losses.specs.Losses.{lost_due, lost_reasons, LosesGammas}
 
 pub lost_taken : {p n : ℕ} → Admissible p n → {witness challenges : List ℕ} → Elements p (witness_length n) witness → Elements p 1 challenges
@@ -34,16 +34,16 @@ lost_taken {p} {n} A {witness} {challenges} w c =
     (lent_taken (record { admissible = A; publics_few = omega arith; lengths = cc (w.long, c.long) }))
     (taken (bad_element p (witness ++ challenges) ∷ []) (elements_none p (witness ++ challenges) (all_append (λ (a : ℕ). a < p) witness challenges w.below c.below), tt))
 
-module _ {p n : ℕ} (A : Admissible p n) {witness : List ℕ} (w : Elements p (witness_length n) witness) (beta : ℕ) (hβ : beta < p) (r : Counted)
+module _ {p n : ℕ} (A : Admissible p n) {witness : List ℕ} (w : Elements p (witness_length n) witness) (beta : ℕ) (hβ : beta < p) (r : Outcome ℕ)
     (L : LosesGammas p n witness (beta ∷ []) r) where
-  count_is : r.count ≡ lost_gammas p n (lent_witness n witness) beta
+  count_is : given r ≡ lost_gammas p n (lent_witness n witness) beta
   count_is =
       let drawn : Elements p 1 (beta ∷ []) = record { long = refl; below = (hβ, tt) } in
       let yes : is_accepted r.answer ≡ true = ap is_accepted (L.answer ∙ lost_taken A w drawn) in
-      L.count ∙ ap (λ (b : Bool). cond b (lost_gammas p n (lent_witness n witness) beta) 0) yes
+      ap (λ o. unwrap_or o 0) (L.count ∙ ap (λ (b : Bool). cond b (Some (lost_gammas p n (lent_witness n witness) beta)) None) yes)
 
   pub count_zero : {l : ℕ} (C : Constraints) → Circuit p n l C → (x : ℕ → ℕ) → Satisfies p n C x (lent_witness n witness)
-      → Exactly r.count (λ gamma. ZeroPair p n C (lent_witness n witness) (beta, gamma))
+      → Exactly (given r) (λ gamma. ZeroPair p n C (lent_witness n witness) (beta, gamma))
   count_zero {l} C circuit x satisfies =
       subst (λ (K : ℕ). Exactly K (λ gamma. ZeroPair p n C (lent_witness n witness) (beta, gamma))) (sym count_is)
       ((demand_3 0 p n l A C circuit).lost_gammas_lem x (lent_witness n witness) satisfies beta hβ)
@@ -51,8 +51,8 @@ module _ {p n : ℕ} (A : Admissible p n) {witness : List ℕ} (w : Elements p (
 -- of `prove` where e is 0, and of `prove_blinded` where it is 1
 pub count_refused : {e p n l : ℕ} {selectors labels witness publics transcript blinders scratch : List ℕ} → e ≤ 1
     → Honest e p n l selectors labels witness publics transcript blinders scratch
-    → (beta : ℕ) → beta < p → (r : Counted) → LosesGammas p n witness (beta ∷ []) r
-    → (alpha : ℕ) → alpha < p → Exactly r.count (λ gamma. RefusedBy11 e p n l selectors labels witness publics transcript blinders scratch alpha (beta, gamma))
+    → (beta : ℕ) → beta < p → (r : Outcome ℕ) → LosesGammas p n witness (beta ∷ []) r
+    → (alpha : ℕ) → alpha < p → Exactly (given r) (λ gamma. RefusedBy11 e p n l selectors labels witness publics transcript blinders scratch alpha (beta, gamma))
 count_refused {e} {p} {n} {l} {selectors} {labels} {witness} {publics} {transcript} {blinders} {scratch} small H beta hβ r L alpha hα =
     subst (λ (K : ℕ). Exactly K (λ gamma. RefusedBy11 e p n l selectors labels witness publics transcript blinders scratch alpha (beta, gamma)))
     (sym (count_is H.admissible H.witness-right beta hβ r L))

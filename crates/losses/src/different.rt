@@ -12,10 +12,8 @@ fn fill_buckets(numbers: &[u32], buckets: &mut [u32])
     ensures { buckets.new ≡ buckets_of numbers.now }
 {
     let m = numbers.len() as u32;
-    let mut k = 0;
-    while k < buckets.len() {
+    for k in 0..buckets.len() {
         buckets[k] = numbers[k] % m;
-        k += 1;
     }
 }
 
@@ -42,9 +40,7 @@ fn count_last(numbers: &[u32], next: &[u32]) -> u32
     ensures { result ≡ different numbers.now }
 {
     let mut count: u32 = 0;
-    let mut k = numbers.len();
-    while 0 < k {
-        k -= 1;
+    for k in (0..numbers.len()).rev() {
         if !again(numbers, next, k) {
             count += 1;
         }
@@ -58,8 +54,8 @@ pub fn count_different(numbers: &[u32]) -> u32
     ensures { result ≡ different numbers.now }
 {
     let m = numbers.len();
-    let mut buckets = field::positions_room();
-    let mut next = field::positions_room();
+    let mut buckets: [u32; field::POSITIONS_ROOM] = field::room();
+    let mut next: [u32; field::POSITIONS_ROOM] = field::room();
     fill_buckets(numbers, &mut buckets[..m]);
     circuit::fill_permutation(&buckets[..m], &mut next[..m]);
     count_last(numbers, &next[..m])

@@ -1,18 +1,17 @@
 -- The theorems that specs/Answers lists, with their proofs.
 -- Assumes nothing.
-use Rattle.std.specs.Prelude.{◌≡◌, ◌≢◌, true, false, List, ◌++◌, ℕ, ◌-◌, ◌<◌, length, get_or, replicate}
+use Rattle.std.specs.Prelude.{◌≡◌, ◌≢◌, true, false, List, ◌++◌, ℕ, ◌-◌, ◌<◌, length, get_or, replicate, Some}
 use Rattle.std.proofs.Common.{sym, ap, ◌∙◌, arith, eq-eqb}
 use Rattle.std.proofs.lemmas.List.{length-replicate}
 use Rattle.algebra.specs.Lists.{All, AtMost}
 use Rattle.algebra.specs.Polynomial.{Elements}
 use Rattle.algebra.specs.Counting.{at_most_of}
 use Rattle.algebra.specs.Tables.{all_append, all_left, all_right}
-use Rattle.field.specs.declared.Answer.{Answer}
-use Rattle.field.specs.Reasons.{is_accepted}
+use Rattle.field.specs.Reasons.{Outcome, Answer, is_accepted}
 use Rattle.circuit.specs.Buffers.{opening_length, work_length, blinded_by}
 use Rattle.circuit.specs.Parts.{blinded_of}
 use Rattle.protocol.specs.Protocol.{accept}
-use Rattle.pointcheck.specs.declared.PointAnswer.{PointAnswer}
+use Rattle.pointcheck.specs.declared.Judged.{Judged}
 use Rattle.pointcheck.specs.declared.Judged.TheVariants.{Accept}
 use Rattle.pointcheck.specs.Buffers.{Readable}
 use Rattle.pointcheck.specs.Verdicts.{accept_of, answer_accept}
@@ -91,8 +90,8 @@ module _ (p n : ℕ) (prepared transcript list evaluations opening challenges sc
       (all_append P transcript _ (all_left P transcript challenges later)
       (all_append P evaluations' _ right_evaluations.below (all_append P opening' _ right_opening.below (all_right P transcript challenges later))))
 
-  pub opened-accepted : (s : PointAnswer) (scratch'' : List ℕ)
-      → ChecksOpening p n prepared transcript list evaluations' opening' challenges scratch' s scratch'' → s.verdict ≡ Accept
+  pub opened-accepted : (s : Outcome Judged) (scratch'' : List ℕ)
+      → ChecksOpening p n prepared transcript list evaluations' opening' challenges scratch' s scratch'' → s.value ≡ Some Accept
   opened-accepted s scratch'' checks =
       let answered : s.answer ≡ record { number = 0; detail = 0 } =
       checks.answer ∙ opening_taken p n prepared transcript list evaluations' opening' challenges scratch' true lent_again elements in

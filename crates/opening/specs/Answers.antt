@@ -8,10 +8,11 @@
 --
 -- The theorems stand in proofs/Answers.
 -- Assumes nothing.
-use Rattle.std.specs.Prelude.{◌≡◌, List, [], ◌∷◌, ℕ, ◌<◌}
+use Rattle.field.specs.Reasons.{Outcome}
+use Rattle.std.specs.Prelude.{◌≡◌, List, [], ◌∷◌, ℕ, ◌<◌, Some}
 use Rattle.algebra.specs.Polynomial.{Elements}
 use Rattle.circuit.specs.Buffers.{opening_length}
-use Rattle.pointcheck.specs.declared.PointAnswer.{PointAnswer}
+use Rattle.pointcheck.specs.declared.Judged.{Judged}
 use Rattle.pointcheck.specs.declared.Judged.TheVariants.{Accept}
 use Rattle.opening.specs.Promises.{ChecksOpening}
 
@@ -23,6 +24,6 @@ pub record OpeningAccepts (e p n : ℕ) (prepared transcript list evaluations : 
   pub opening_elements : Elements p (opening_length e n) opening
   pub scratch : List ℕ
   pub scratch' : List ℕ
-  pub r : PointAnswer
+  pub r : Outcome Judged
   pub checks : ChecksOpening p n prepared transcript list evaluations opening (point ∷ m ∷ []) scratch r scratch'
-  pub accepts : r.verdict ≡ Accept
+  pub accepts : r.value ≡ Some Accept

@@ -5,13 +5,10 @@
 -- ChecksOpening      what `check_opening` promises of its answer r and of the lent scratch afterwards
 --
 -- Assumes nothing.
-use Rattle.std.specs.Prelude.{◌≡◌, cond, List, ℕ, get_or, replicate}
-use Rattle.field.specs.declared.Answer.{Answer}
-use Rattle.field.specs.Reasons.{answer_of, is_accepted}
+use Rattle.std.specs.Prelude.{Some, ◌≡◌, cond, List, ℕ, get_or, replicate, None}
+use Rattle.field.specs.Reasons.{Outcome, Answer, answer_of, is_accepted}
 use Rattle.circuit.specs.Buffers.{work_length, blinded_by}
 use Rattle.pointcheck.specs.declared.Judged.{Judged}
-use Rattle.pointcheck.specs.declared.Judged.TheVariants.{None}
-use Rattle.pointcheck.specs.declared.PointAnswer.{PointAnswer}
 use Rattle.pointcheck.specs.Promises.{judged_as}
 use Rattle.opening.specs.Opening.{evaluations_of, opening_of, opening_verdict}
 use Rattle.opening.specs.Reasons.{open_reasons, check_reasons}
@@ -30,7 +27,7 @@ module _ (p n : ℕ) (prepared transcript list evaluations opening challenges sc
     pub cleared : scratch' ≡ cond (is_accepted r) (replicate (work_length (blinded_by n transcript) n) 0) scratch
 
   -- refused: no verdict, and the scratch as it came; accepted: the verdict, and the scratch is zeros. The other buffers are only read.
-  pub record ChecksOpening (r : PointAnswer) (scratch' : List ℕ) : Type 0 where
+  pub record ChecksOpening (r : Outcome Judged) (scratch' : List ℕ) : Type 0 where
     pub answer : r.answer ≡ answer_of (check_reasons p n prepared transcript list evaluations opening challenges scratch)
-    pub verdict : r.verdict ≡ cond (is_accepted r.answer) (judged_opening p n prepared transcript list evaluations opening challenges) None
+    pub verdict : r.value ≡ cond (is_accepted r.answer) (Some (judged_opening p n prepared transcript list evaluations opening challenges)) None
     pub cleared : scratch' ≡ cond (is_accepted r.answer) (replicate (work_length (blinded_by n transcript) n) 0) scratch

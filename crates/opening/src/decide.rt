@@ -1,9 +1,9 @@
 // Why a call is turned down, if it is: the reasons in order. Nothing is written.
 ghost use Rattle.std.specs.Prelude.{◌≡◌, [], ◌∷◌, ◌++◌, ◌+◌, ◌<◌, ◌≤◌, length};
-ghost use Rattle.field.specs.Reasons.{answer_of, bad_element};
-ghost use Rattle.opening.specs.Reasons.{opening_due, list_reasons, lent_list_reasons, opening_reasons};
+ghost use Rattle.field.specs.Reasons.{told, answer_of, bad_element};
+ghost use Rattle.opening.specs.Reasons.{opening_due, list_reasons, lent_list_reasons, open_reasons, check_reasons};
 
-use field::Answer;
+use field::{Cause, Refusal};
 
 // The lengths due, in the order in which the buffers are counted, for a list of k numbers, e being 1 where the transcript is blinded, else 0:
 // prepared circuit, transcript, list, evaluations, opening polynomial, challenges, scratch.
@@ -23,18 +23,18 @@ fn lengths_due(e: usize, n: usize, k: usize) -> [usize; 7]
 }
 
 // The reasons of the list: 12 and 13.
-fn decide_list(list: &[u32]) -> Answer
-    ensures { result ≡ answer_of (list_reasons list.now) }
+fn decide_list(list: &[u32]) -> Result<(), Refusal>
+    ensures { told result ≡ answer_of (list_reasons list.now) }
 {
     let k = list.len();
     if k == 0 {
-        return field::refused(12, 0);
+        return field::refused(Cause::List, 0);
     }
     if circuit::POLYNOMIAL_COUNT < k {
-        return field::refused(12, 0);
+        return field::refused(Cause::List, 0);
     }
     field::decide_at(
-        13,
+        Cause::Polynomial,
         field::first_above(circuit::POLYNOMIAL_COUNT as u32, list),
         k,
     )
@@ -51,8 +51,8 @@ fn decide_lent(
     opening: &[u32],
     challenges: &[u32],
     scratch: &[u32],
-) -> Answer
-    ensures { result ≡ answer_of (lent_list_reasons p n prepared.now transcript.now list.now evaluations.now opening.now challenges.now scratch.now) }
+) -> Result<(), Refusal>
+    ensures { told result ≡ answer_of (lent_list_reasons p n prepared.now transcript.now list.now evaluations.now opening.now challenges.now scratch.now) }
 {
     let long = [
         prepared.len(),
@@ -65,11 +65,7 @@ fn decide_lent(
     ];
     let e = circuit::blinded_by(n as usize, transcript);
     let due = lengths_due(e, n as usize, list.len());
-    let answer = field::decide_lent(p, n, 0, &long, &due);
-    let number = answer.number;
-    if number != 0 {
-        return answer;
-    }
+    field::decide_lent(p, n, 0, &long, &due)?;
     decide_list(list)
 }
 
@@ -81,19 +77,18 @@ fn decide_elements(
     evaluations: &[u32],
     opening: &[u32],
     challenges: &[u32],
-) -> Answer
+) -> Result<(), Refusal>
     requires { length prepared.now + length transcript.now + length evaluations.now + length opening.now + length challenges.now ≤ 65536 }
-    ensures { result ≡ answer_of (bad_element p (prepared.now ++ (transcript.now ++ (evaluations.now ++ (opening.now ++ challenges.now)))) ∷ []) }
+    ensures { told result ≡ answer_of (bad_element p (prepared.now ++ (transcript.now ++ (evaluations.now ++ (opening.now ++ challenges.now)))) ∷ []) }
 {
     let at = field::first_of_four(p, prepared, transcript, evaluations, opening);
     let passed = prepared.len() + transcript.len() + evaluations.len() + opening.len();
     let last = field::then_above(p, at, passed, challenges);
-    field::decide_at(7, last, passed + challenges.len())
+    field::decide_at(Cause::Element, last, passed + challenges.len())
 }
 
-// The reasons of `check_opening`, or those of `open`, which counts no evaluations and no opening polynomial among the elements.
-pub fn decide(
-    checks: bool,
+// The reasons of `open`, which only writes the evaluations and the opening polynomial, and counts none of their words among the elements.
+pub fn decide_open(
     p: u32,
     n: u32,
     prepared: &[u32],
@@ -103,10 +98,10 @@ pub fn decide(
     opening: &[u32],
     challenges: &[u32],
     scratch: &[u32],
-) -> Answer
-    ensures { result ≡ answer_of (opening_reasons p n prepared.now transcript.now list.now evaluations.now opening.now challenges.now scratch.now checks) }
+) -> Result<(), Refusal>
+    ensures { told result ≡ answer_of (open_reasons p n prepared.now transcript.now list.now evaluations.now opening.now challenges.now scratch.now) }
 {
-    let answer = decide_lent(
+    decide_lent(
         p,
         n,
         prepared,
@@ -116,20 +111,34 @@ pub fn decide(
         opening,
         challenges,
         scratch,
-    );
-    let number = answer.number;
-    if number != 0 {
-        return answer;
-    }
-    if checks {
-        return decide_elements(p, prepared, transcript, evaluations, opening, challenges);
-    }
-    decide_elements(
+    )?;
+    decide_elements(p, prepared, transcript, &[], &[], challenges)
+}
+
+// The reasons of `check_opening`.
+pub fn decide_check(
+    p: u32,
+    n: u32,
+    prepared: &[u32],
+    transcript: &[u32],
+    list: &[u32],
+    evaluations: &[u32],
+    opening: &[u32],
+    challenges: &[u32],
+    scratch: &[u32],
+) -> Result<(), Refusal>
+    ensures { told result ≡ answer_of (check_reasons p n prepared.now transcript.now list.now evaluations.now opening.now challenges.now scratch.now) }
+{
+    decide_lent(
         p,
+        n,
         prepared,
         transcript,
-        &evaluations[..0],
-        &opening[..0],
+        list,
+        evaluations,
+        opening,
         challenges,
-    )
+        scratch,
+    )?;
+    decide_elements(p, prepared, transcript, evaluations, opening, challenges)
 }

@@ -5,13 +5,14 @@
 #![tactic(auto)]
 
 ghost use Rattle.std.specs.Prelude.{◌≡◌, length, get_or, replicate};
+ghost use Rattle.field.specs.Reasons.{told, outcome};
 ghost use Rattle.circuit.specs.Buffers.{work_length, blinded_by};
 ghost use Rattle.opening.specs.Opening.{evaluations_of, opening_of};
 ghost use Rattle.opening.specs.Promises.{judged_opening, Opens, ChecksOpening};
 ghost use Rattle.opening.specs.Buffers.{Checked};
 
-use field::Answer;
-use pointcheck::{Judged, PointAnswer};
+use field::Refusal;
+use pointcheck::Judged;
 
 mod comparing;
 mod decide;
@@ -50,7 +51,7 @@ fn work<'a>(
         challenges,
         &mut scratch[..long],
     );
-    transform::slices::clear(scratch);
+    scratch.fill(0);
 }
 
 // The work of `check_opening` on checked numbers: the verdict. The scratch is cleared.
@@ -83,7 +84,7 @@ fn judge<'a>(
         challenges,
         &mut scratch[..long],
     );
-    transform::slices::clear(scratch);
+    scratch.fill(0);
     if same {
         return Judged::Accept;
     }
@@ -101,11 +102,21 @@ pub fn open<'a>(
     opening: &mut [u32],
     challenges: &[u32],
     scratch: &mut [u32],
-) -> Answer
-    ensures { Opens p n prepared.now transcript.now list.now evaluations.old opening.old challenges.now scratch.old result evaluations.new opening.new scratch.new }
+) -> Result<(), Refusal>
+    ensures { Opens p n prepared.now transcript.now list.now evaluations.old opening.old challenges.now scratch.old (told result) evaluations.new opening.new scratch.new }
 {
-    let answer = decide::decide(
-        false,
+    decide::decide_open(
+        p,
+        n,
+        prepared,
+        transcript,
+        list,
+        evaluations,
+        opening,
+        challenges,
+        scratch,
+    )?;
+    work(
         p,
         n,
         prepared,
@@ -116,21 +127,7 @@ pub fn open<'a>(
         challenges,
         scratch,
     );
-    let number = answer.number;
-    if number == 0 {
-        work(
-            p,
-            n,
-            prepared,
-            transcript,
-            list,
-            evaluations,
-            opening,
-            challenges,
-            scratch,
-        );
-    }
-    answer
+    Ok(())
 }
 
 // Accept if the mixture of the lent evaluations equals the lent opening polynomial × (X - point) in every coefficient, else reject; or why the
@@ -145,11 +142,10 @@ pub fn check_opening<'a>(
     opening: &[u32],
     challenges: &[u32],
     scratch: &mut [u32],
-) -> PointAnswer
-    ensures { ChecksOpening p n prepared.now transcript.now list.now evaluations.now opening.now challenges.now scratch.old result scratch.new }
+) -> Result<Judged, Refusal>
+    ensures { ChecksOpening p n prepared.now transcript.now list.now evaluations.now opening.now challenges.now scratch.old (outcome result) scratch.new }
 {
-    let answer = decide::decide(
-        true,
+    decide::decide_check(
         p,
         n,
         prepared,
@@ -159,15 +155,8 @@ pub fn check_opening<'a>(
         opening,
         challenges,
         scratch,
-    );
-    let number = answer.number;
-    if number != 0 {
-        return PointAnswer {
-            answer,
-            verdict: Judged::None,
-        };
-    }
-    let verdict = judge(
+    )?;
+    Ok(judge(
         p,
         n,
         prepared,
@@ -177,6 +166,5 @@ pub fn check_opening<'a>(
         opening,
         challenges,
         scratch,
-    );
-    PointAnswer { answer, verdict }
+    ))
 }

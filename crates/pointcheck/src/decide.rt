@@ -1,9 +1,9 @@
 // Why a call is turned down, if it is: document 01's reasons in order. Nothing is written.
 ghost use Rattle.std.specs.Prelude.{◌≡◌, [], ◌∷◌, ◌++◌, ◌+◌, ◌≤◌, length};
-ghost use Rattle.field.specs.Reasons.{answer_of, bad_element};
+ghost use Rattle.field.specs.Reasons.{told, answer_of, bad_element};
 ghost use Rattle.circuit.specs.Reasons.{point_reasons};
 
-use field::Answer;
+use field::{Cause, Refusal};
 
 // The reason of the numbers in the buffers that are read.
 fn numbers(
@@ -12,13 +12,13 @@ fn numbers(
     prepared: &[u32],
     transcript: &[u32],
     challenges: &[u32],
-) -> Answer
+) -> Result<(), Refusal>
     requires { length publics.now + length prepared.now + length transcript.now + length challenges.now ≤ 65536 }
-    ensures { result ≡ answer_of (bad_element p (publics.now ++ (prepared.now ++ (transcript.now ++ challenges.now))) ∷ []) }
+    ensures { told result ≡ answer_of (bad_element p (publics.now ++ (prepared.now ++ (transcript.now ++ challenges.now))) ∷ []) }
 {
     let at = field::first_of_four(p, publics, prepared, transcript, challenges);
     let count = publics.len() + prepared.len() + transcript.len() + challenges.len();
-    field::decide_at(7, at, count)
+    field::decide_at(Cause::Element, at, count)
 }
 
 // The reasons in order.
@@ -31,8 +31,8 @@ pub fn decide(
     transcript: &[u32],
     challenges: &[u32],
     scratch: &[u32],
-) -> Answer
-    ensures { result ≡ answer_of (point_reasons p n l publics.now prepared.now transcript.now challenges.now scratch.now) }
+) -> Result<(), Refusal>
+    ensures { told result ≡ answer_of (point_reasons p n l publics.now prepared.now transcript.now challenges.now scratch.now) }
 {
     let long = [
         publics.len(),
@@ -43,10 +43,6 @@ pub fn decide(
     ];
     let e = circuit::blinded_by(n as usize, transcript);
     let due = circuit::due::point(e, n as usize, l as usize);
-    let answer = field::decide_lent(p, n, l, &long, &due);
-    let number = answer.number;
-    if number != 0 {
-        return answer;
-    }
+    field::decide_lent(p, n, l, &long, &due)?;
     numbers(p, publics, prepared, transcript, challenges)
 }

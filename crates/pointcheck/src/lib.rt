@@ -6,10 +6,11 @@
 
 ghost use Rattle.std.specs.Prelude.{◌≡◌, replicate};
 ghost use Rattle.circuit.specs.Buffers.{work_length, blinded_by};
+ghost use Rattle.field.specs.Reasons.{outcome};
 ghost use Rattle.pointcheck.specs.Promises.{PointChecks, judged_at};
 ghost use Rattle.pointcheck.specs.Buffers.{Checked};
 
-use field::Answer;
+use field::Refusal;
 
 mod combine;
 mod decide;
@@ -17,18 +18,11 @@ mod publics;
 mod sides;
 mod values;
 
-// The verdict of the check; none where the call is refused.
-#[derive(Drop)]
+// The verdict of the check.
+#[derive(Clone, Copy, Debug, PartialEq, Eq)]
 pub enum Judged {
-    None,
     Accept,
     Reject,
-}
-
-#[derive(Drop)]
-pub struct PointAnswer {
-    pub answer: Answer,
-    pub verdict: Judged,
 }
 
 // The work on checked numbers: the two sides at zeta are compared, and the scratch is cleared.
@@ -47,7 +41,7 @@ fn work(
 {
     let e = circuit::blinded_by(n as usize, transcript);
     let x = publics::public_at(p, n, publics, challenges[3], scratch);
-    transform::slices::clear(scratch);
+    scratch.fill(0);
     if sides::equal_at(e, p, n, x, prepared, transcript, challenges) {
         return Judged::Accept;
     }
@@ -65,17 +59,9 @@ pub fn check_point(
     transcript: &[u32],
     challenges: &[u32],
     scratch: &mut [u32],
-) -> PointAnswer
-    ensures { PointChecks p n l publics.now prepared.now transcript.now challenges.now scratch.old result scratch.new }
+) -> Result<Judged, Refusal>
+    ensures { PointChecks p n l publics.now prepared.now transcript.now challenges.now scratch.old (outcome result) scratch.new }
 {
-    let answer = decide::decide(p, n, l, publics, prepared, transcript, challenges, scratch);
-    let number = answer.number;
-    if number == 0 {
-        let verdict = work(p, n, publics, prepared, transcript, challenges, scratch);
-        return PointAnswer { answer, verdict };
-    }
-    PointAnswer {
-        answer,
-        verdict: Judged::None,
-    }
+    decide::decide(p, n, l, publics, prepared, transcript, challenges, scratch)?;
+    Ok(work(p, n, publics, prepared, transcript, challenges, scratch))
 }

@@ -8,9 +8,8 @@
 use Rattle.std.specs.Prelude.{◌≡◌, cond, List, ◌++◌, ℕ, ◌*◌, length, get_or, replicate}
 use Rattle.algebra.specs.Lists.{tab}
 use Rattle.algebra.specs.Polynomial.{Elements}
-use Rattle.field.specs.declared.Answer.{Answer}
 use Rattle.field.specs.Fields.{Admissible, tag}
-use Rattle.field.specs.Reasons.{answer_of, is_accepted}
+use Rattle.field.specs.Reasons.{Answer, answer_of, is_accepted}
 use Rattle.transform.specs.Transform.{scratch_length}
 use Rattle.circuit.specs.Circuit.{lent_constraints, permutation}
 use Rattle.circuit.specs.Buffers.{selectors_length, labels_length, prepared_length}

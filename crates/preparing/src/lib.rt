@@ -5,7 +5,7 @@
 
 ghost use Rattle.std.specs.Prelude.{◌≡◌, ◌*◌, length, replicate};
 ghost use Rattle.algebra.specs.Polynomial.{Elements};
-ghost use Rattle.field.specs.Reasons.{answer_of};
+ghost use Rattle.field.specs.Reasons.{told, answer_of};
 ghost use Rattle.transform.specs.Transform.{scratch_length};
 ghost use Rattle.circuit.specs.Circuit.{lent_constraints};
 ghost use Rattle.transform.specs.Points.{Points};
@@ -14,7 +14,7 @@ ghost use Rattle.circuit.specs.Reasons.{prepare_reasons};
 ghost use Rattle.protocol.specs.Protocol.{prepared};
 ghost use Rattle.preparing.specs.Promises.{Prepares, Checked, rows_of};
 
-use field::Answer;
+use field::Refusal;
 
 // Why a call is turned down, if it is. Nothing is written.
 fn decide(
@@ -25,16 +25,12 @@ fn decide(
     labels: &[u32],
     written: &[u32],
     scratch: &[u32],
-) -> Answer
-    ensures { result ≡ answer_of (prepare_reasons p n l selectors.now labels.now written.now scratch.now) }
+) -> Result<(), Refusal>
+    ensures { told result ≡ answer_of (prepare_reasons p n l selectors.now labels.now written.now scratch.now) }
 {
     let long = [selectors.len(), labels.len(), written.len(), scratch.len()];
     let due = circuit::due::prepare(n as usize);
-    let answer = field::decide_lent(p, n, l, &long, &due);
-    let number = answer.number;
-    if number != 0 {
-        return answer;
-    }
+    field::decide_lent(p, n, l, &long, &due)?;
     let at = field::first_above(p, selectors);
     circuit::decide_numbers(n, l, at, selectors.len(), selectors, labels)
 }
@@ -46,7 +42,7 @@ fn fill_rows(p: u32, n: u32, powers: &[u32], selectors: &[u32], labels: &[u32], 
     ensures { out.new ≡ rows_of p n selectors.now labels.now }
 {
     let m = selectors.len();
-    transform::slices::copy(selectors, &mut out[..m]);
+    out[..m].copy_from_slice(selectors);
     circuit::wired_tags(p, n, powers, labels, &mut out[m..]);
 }
 
@@ -67,7 +63,7 @@ pub fn work(p: u32, n: u32, selectors: &[u32], labels: &[u32], out: &mut [u32], 
         &mut scratch[..m],
         circuit::PREPARED_COUNT,
     );
-    transform::slices::clear(scratch);
+    scratch.fill(0);
 }
 
 // The prepared circuit: qL, qR, qO, qM, qC and the three polynomials of the tags of where the permutation leads, end to end. l is the number of
@@ -80,13 +76,10 @@ pub fn prepare(
     labels: &[u32],
     written: &mut [u32],
     scratch: &mut [u32],
-) -> Answer
-    ensures { Prepares p n l selectors.now labels.now written.old scratch.old result written.new scratch.new }
+) -> Result<(), Refusal>
+    ensures { Prepares p n l selectors.now labels.now written.old scratch.old (told result) written.new scratch.new }
 {
-    let answer = decide(p, n, l, selectors, labels, written, scratch);
-    let number = answer.number;
-    if number == 0 {
-        work(p, n, selectors, labels, written, scratch);
-    }
-    answer
+    decide(p, n, l, selectors, labels, written, scratch)?;
+    work(p, n, selectors, labels, written, scratch);
+    Ok(())
 }

@@ -19,9 +19,8 @@ use Rattle.std.proofs.Math.Option.{Option, none, some}
 use Prim.Native.String.{String}
 use Rattle.algebra.specs.Lists.{tab, All}
 use Rattle.algebra.specs.Polynomial.{eval}
-use Rattle.field.specs.declared.Answer.{Answer}
 use Rattle.field.specs.Fields.{tag}
-use Rattle.field.specs.Reasons.{answer_of}
+use Rattle.field.specs.Reasons.{Answer, answer_of}
 use Rattle.transform.specs.Transform.{interpolation}
 use Rattle.circuit.specs.Circuit.{Constraints, lent_constraints, lent_witness, lent_public, permutation}
 use Rattle.protocol.specs.Protocol.{row_n, row_d, z_rows, poly_f, prepared_poly, prepared, wires_of, z_of, t_of, proved, RowVerdict, pass, row_verdict, PointVerdict, accept, point_verdict, witness_reasons, prove_reasons, tagged, lost_gammas, lost_pairs}

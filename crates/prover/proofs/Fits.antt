@@ -1,8 +1,7 @@
 -- The parts that are lent fit into their buffers, and what the buffers are when they come back.
 --
--- transcript_fits, spare_fits   a, b, c and z fit into the transcript, n words into the scratch
 -- scratch_fits, filling_fits   the scratch of preparing, and F, fit into the scratch
--- prepared_fits, room_fits, laid_fits   the prepared circuit and the domain points fit into their arrays; a, b, c and z into the transcript
+-- prepared_fits, room_fits   the prepared circuit and the domain points fit into their arrays
 -- rest_long             the words behind a, b, c and z are as many as t has
 -- transcript_of_lem     a, b, c and z with the quotient behind them are the prover's transcript
 --
@@ -25,14 +24,7 @@ use Rattle.protocol.specs.Protocol.{quotient, z_rows, z_blinder, blinded, wires_
 use Rattle.protocol.specs.Blinding.{wires_elements, z_elements}
 use Rattle.laying.specs.Rows.{laid_rows}
 use Rattle.prover.specs.Promises.{proved_from}
-use Rattle.prover.specs.Buffers.{lent_f, Ready, Front, laid-F}
-
-module _ {e p n : ℕ} {labels witness transcript challenges blinders scratch : List ℕ} (F : Front e p n labels witness transcript challenges blinders scratch) where
-  pub transcript_fits : t_start e n ≤ length transcript
-  transcript_fits = omega (arith, F.transcript_long, (rows-power p n F.admissible.rows).least)
-
-  pub spare_fits : n ≤ length scratch
-  spare_fits = omega (arith, F.scratch_long)
+use Rattle.prover.specs.Buffers.{lent_f, Ready, laid-F}
 
 module _ {e p n : ℕ} {selectors labels publics challenges scratch : List ℕ} (R : Ready e p n selectors labels publics challenges scratch) where
   pub scratch_fits : scratch_length n ≤ length scratch
@@ -41,14 +33,11 @@ module _ {e p n : ℕ} {selectors labels publics challenges scratch : List ℕ} 
   pub filling_fits : f_length e n ≤ length scratch
   filling_fits = omega (arith, R.scratch_long)
 
-  pub prepared_fits : (l : List ℕ) → prepared_length rows_room ≡ length l → prepared_length n ≤ length l
-  prepared_fits l is = omega (arith, (rows-power p n R.admissible.rows).small)
+  pub prepared_fits : (k : ℕ) (l : List ℕ) → k ≡ prepared_length n → prepared_length rows_room ≡ length l → k ≤ length l
+  prepared_fits k l due is = omega (arith, (rows-power p n R.admissible.rows).small)
 
   pub room_fits : (l : List ℕ) → rows_room ≡ length l → n ≤ length l
   room_fits l is = omega (arith, (rows-power p n R.admissible.rows).small)
-
-  pub laid_fits : (laid : List ℕ) → length laid ≡ transcript_length e n → t_start e n ≤ length laid
-  laid_fits laid is = omega (arith, (rows-power p n R.admissible.rows).least)
 
   pub rest_long : (laid : List ℕ) → length laid ≡ transcript_length e n
       → length (take (length laid - t_start e n) (drop (t_start e n) laid)) ≡ quotient_length e n

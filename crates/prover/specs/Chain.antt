@@ -10,17 +10,16 @@
 -- The number e is 1 for `prove_blinded`, and 0 for `prove`, which is lent no blinders.
 -- A call's answer is any that keeps the call's promise: Proves, Prepares, ChecksRows, PointChecks.
 -- Assumes nothing.
-use Rattle.std.specs.Prelude.{◌≡◌, Bool, true, cond, List, [], ◌∷◌, ℕ, zero, suc, ◌%◌, ◌≤◌, ◌<◌, length, get_or}
+use Rattle.std.specs.Prelude.{◌≡◌, Bool, true, cond, List, [], ◌∷◌, ℕ, zero, suc, ◌%◌, ◌≤◌, ◌<◌, length, get_or, Some}
 use Rattle.std.proofs.Common.{sym, ap, ◌∙◌, subst, mod-eq_of_lt, arith, eqb-true}
 use Rattle.std.proofs.Math.Option.{some, some-injective}
 use Rattle.algebra.specs.Lists.{tab}
 use Rattle.algebra.specs.Polynomial.{coef, Elements}
 use Rattle.algebra.specs.Tables.{tab_ext, tab-get_or, all_get_d}
-use Rattle.field.specs.declared.Answer.{Answer}
 use Rattle.field.specs.Fields.{Admissible}
 use Rattle.field.specs.Domain.{Domain}
 use Rattle.field.proofs.Domain.{domain}
-use Rattle.field.specs.Reasons.{is_accepted}
+use Rattle.field.specs.Reasons.{Outcome, Answer, is_accepted}
 use Rattle.transform.specs.Transform.{value_at, evaluation, interpolation, scratch_length}
 use Rattle.circuit.specs.Circuit.{Constraints, position, lent_constraints, lent_public, lent_witness}
 use Rattle.circuit.specs.Buffers.{prepared_length, wire_length, work_length, wire_part, z_part}
@@ -32,10 +31,10 @@ use Rattle.protocol.specs.Blinding.{wires_elements, z_elements, interpolated_at}
 use Rattle.protocol.specs.Layout.{wire_part_lem, z_part_lem}
 use Rattle.protocol.specs.GrandProduct.{GrandProduct, grand_product, proved-laid}
 use Rattle.preparing.specs.Promises.{Prepares}
-use Rattle.rowcheck.specs.declared.RowAnswer.{RowAnswer}
+use Rattle.rowcheck.specs.declared.Verdict.{Verdict}
 use Rattle.rowcheck.specs.declared.Verdict.TheVariants.{Pass}
 use Rattle.rowcheck.specs.Promises.{ChecksRows}
-use Rattle.pointcheck.specs.declared.PointAnswer.{PointAnswer}
+use Rattle.pointcheck.specs.declared.Judged.{Judged}
 use Rattle.pointcheck.specs.declared.Judged.TheVariants.{Accept}
 use Rattle.pointcheck.specs.Promises.{PointChecks}
 use Rattle.verifier.specs.Answers.{AnswersCounted, answers_counted}
@@ -49,15 +48,15 @@ pub record PassesChecks (e p n l : ℕ) (selectors labels witness publics challe
   -- the values of the transcript's a at the points of the rows below l
   pub publics-bound : (i : ℕ) → i < l → value_at p n (wire_part e n 0 transcript') i ≡ lent_public publics i
   -- lent the values of the transcript's z
-  pub rows_pass : (r : RowAnswer)
+  pub rows_pass : (r : Outcome Verdict)
       → ChecksRows p n l selectors labels witness publics (evaluation p n (z_part e n transcript')) (get_or challenges 0 0 ∷ get_or challenges 1 0 ∷ []) r
-      → r.verdict ≡ Pass
+      → r.value ≡ Some Pass
   -- whatever the written buffer and the scratches held before
   pub point-accepted : (written scratch : List ℕ) → length written ≡ prepared_length n → length scratch ≡ scratch_length n
       → (r : Answer) (written' scratch' : List ℕ) → Prepares p n l selectors labels written scratch r written' scratch'
-      → (zeta : ℕ) → zeta < p → (spare spare' : List ℕ) → length spare ≡ work_length e n → (s : PointAnswer)
+      → (zeta : ℕ) → zeta < p → (spare spare' : List ℕ) → length spare ≡ work_length e n → (s : Outcome Judged)
       → PointChecks p n l publics written' transcript' (get_or challenges 0 0 ∷ get_or challenges 1 0 ∷ get_or challenges 2 0 ∷ zeta ∷ []) spare s spare'
-      → s.verdict ≡ Accept
+      → s.value ≡ Some Accept
 
 -- THE PROOF
 
@@ -138,7 +137,7 @@ module _ (e p n l : ℕ) (selectors labels witness publics transcript challenges
       ∙ counted.publics-bound witness A.honest.witness-right A.honest.satisfies i h
 
   -- the z and the transcript for which the counts speak are these
-  rows_pass : (r : RowAnswer) → ChecksRows p n l selectors labels witness publics grand.0 (beta ∷ gamma ∷ []) r → r.verdict ≡ Pass
+  rows_pass : (r : Outcome Verdict) → ChecksRows p n l selectors labels witness publics grand.0 (beta ∷ gamma ∷ []) r → r.value ≡ Some Pass
   rows_pass r checks =
       let H = counted.honest_rows witness A.honest.witness-right A.honest.satisfies beta gamma (below 0 (omega arith)) (below 1 (omega arith)) A.no_zero in
       H.2 r
@@ -146,9 +145,9 @@ module _ (e p n l : ℕ) (selectors labels witness publics transcript challenges
       (some-injective grand.0 H.0 (sym grand.1.is ∙ H.1))
       checks)
 
-  point-accepted : (zeta : ℕ) → zeta < p → (spare spare' : List ℕ) → length spare ≡ work_length e n → (s : PointAnswer)
+  point-accepted : (zeta : ℕ) → zeta < p → (spare spare' : List ℕ) → length spare ≡ work_length e n → (s : Outcome Judged)
       → PointChecks p n l publics (prepared p n C) laid (beta ∷ gamma ∷ alpha ∷ zeta ∷ []) spare s spare'
-      → s.verdict ≡ Accept
+      → s.value ≡ Some Accept
   point-accepted zeta hz spare spare' lp s checks =
       let H = counted.honest_point witness A.honest.satisfies beta gamma (below 0 (omega arith)) (below 1 (omega arith)) A.no_zero blinders alpha (below 2 (omega arith)) in
       H.2 zeta hz spare spare' lp s

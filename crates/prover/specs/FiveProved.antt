@@ -15,8 +15,7 @@ use Rattle.std.specs.Prelude.{◌≡◌, refl, ◌≢◌, Bool, true, cond, List
 use Rattle.std.proofs.Common.{sym, ap, ◌∙◌, arith}
 use Rattle.std.proofs.Math.Option.{some}
 use Rattle.algebra.specs.Polynomial.{Elements}
-use Rattle.field.specs.declared.Answer.{Answer}
-use Rattle.field.specs.Reasons.{answer_of, is_accepted}
+use Rattle.field.specs.Reasons.{Answer, answer_of, is_accepted}
 use Rattle.circuit.specs.Circuit.{lent_constraints, lent_public, lent_witness}
 use Rattle.circuit.specs.Buffers.{blinder_count, work_length, wire_part, z_part}
 use Rattle.protocol.specs.Protocol.{prove_reasons}

@@ -8,8 +8,7 @@
 -- Assumes nothing.
 use Rattle.std.specs.Prelude.{◌≡◌, cond, List, ℕ, get_or, replicate}
 use Rattle.std.proofs.Math.Option.{Option, some}
-use Rattle.field.specs.declared.Answer.{Answer}
-use Rattle.field.specs.Reasons.{answer_of, is_accepted}
+use Rattle.field.specs.Reasons.{Answer, answer_of, is_accepted}
 use Rattle.circuit.specs.Circuit.{Layout, lent_constraints, lent_public, lent_by, by_rows}
 use Rattle.circuit.specs.Buffers.{work_length}
 use Rattle.protocol.specs.Protocol.{proved, prove_reasons_with}

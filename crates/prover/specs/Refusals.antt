@@ -15,8 +15,7 @@ use Rattle.std.proofs.Math.Decide.{dec_lt}
 use Rattle.algebra.specs.Lists.{Exactly}
 use Rattle.algebra.specs.Exact.{exactly_of}
 use Rattle.algebra.specs.Polynomial.{Elements}
-use Rattle.field.specs.declared.Answer.{Answer}
-use Rattle.field.specs.Reasons.{answer_of, is_accepted}
+use Rattle.field.specs.Reasons.{Answer, answer_of, is_accepted}
 use Rattle.circuit.specs.Circuit.{Constraints, lent_constraints, lent_witness}
 use Rattle.protocol.specs.Protocol.{zero_factor, prove_reasons, lost_gammas, lost_pairs}
 use Rattle.protocol.specs.Conditions.{zero_factor-le}

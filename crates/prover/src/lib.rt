@@ -7,6 +7,7 @@
 ghost use Rattle.std.specs.Prelude.{◌≡◌, List, [], ◌++◌, ℕ, ◌≤◌, length, get_or, take, drop, replicate};
 ghost use Rattle.std.proofs.Math.Option.{some, map};
 ghost use Rattle.algebra.specs.Polynomial.{reduced};
+ghost use Rattle.field.specs.Reasons.{told};
 ghost use Rattle.circuit.specs.Circuit.{lent_constraints, lent_witness};
 ghost use Rattle.circuit.specs.Buffers.{f_length, transcript_length, t_start, work_length};
 ghost use Rattle.protocol.specs.Protocol.{quotient};
@@ -14,7 +15,7 @@ ghost use Rattle.laying.specs.Rows.{laid_rows};
 ghost use Rattle.prover.specs.Promises.{proved_from, Proves};
 ghost use Rattle.prover.specs.Buffers.{lent_f, Ready, Front, Checked};
 
-use field::Answer;
+use field::Refusal;
 
 // F at the start of the scratch, from a, b, c and z as they are laid. The prepared circuit stands in an array of its own.
 fn fill_f(
@@ -35,7 +36,7 @@ fn fill_f(
     let k = circuit::prepared_length(m);
     let room = transform::scratch_length(m);
     let end = circuit::f_length(e, m);
-    let mut prepared = circuit::prepared_room();
+    let mut prepared: [u32; circuit::PREPARED_ROOM] = field::room();
     let powers = field::domain_points(p, n);
     preparing::work(
         p,
@@ -149,7 +150,7 @@ fn work(
     lay_t(
         e, p, n, selectors, labels, publics, transcript, challenges, scratch,
     );
-    transform::slices::clear(scratch);
+    scratch.fill(0);
 }
 
 // A whole call of either kind: the decision, and the work where no reason applies. The layer above, which has the e of its sheet, makes it too.
@@ -166,20 +167,17 @@ pub fn run(
     challenges: &[u32],
     blinders: &[u32],
     scratch: &mut [u32],
-) -> Answer
+) -> Result<(), Refusal>
     requires { (e ≤ 1) × (e ≡ 0 → blinders.now ≡ []) }
-    ensures { Proves e p n l selectors.now labels.now witness.now publics.now transcript.old challenges.now blinders.now scratch.old result transcript.new scratch.new }
+    ensures { Proves e p n l selectors.now labels.now witness.now publics.now transcript.old challenges.now blinders.now scratch.old (told result) transcript.new scratch.new }
 {
-    let answer = witnesses::decide(
+    witnesses::decide(
         e, p, n, l, selectors, labels, witness, publics, transcript, challenges, blinders, scratch,
+    )?;
+    work(
+        e, p, n, selectors, labels, witness, publics, transcript, challenges, blinders, scratch,
     );
-    let number = answer.number;
-    if number == 0 {
-        work(
-            e, p, n, selectors, labels, witness, publics, transcript, challenges, blinders, scratch,
-        );
-    }
-    answer
+    Ok(())
 }
 
 // The transcript a, b, c, z, t of a witness that satisfies its circuit; or why the call is turned down. The challenges are beta, gamma, alpha.
@@ -194,8 +192,8 @@ pub fn prove(
     transcript: &mut [u32],
     challenges: &[u32],
     scratch: &mut [u32],
-) -> Answer
-    ensures { Proves 0 p n l selectors.now labels.now witness.now publics.now transcript.old challenges.now [] scratch.old result transcript.new scratch.new }
+) -> Result<(), Refusal>
+    ensures { Proves 0 p n l selectors.now labels.now witness.now publics.now transcript.old challenges.now [] scratch.old (told result) transcript.new scratch.new }
 {
     run(
         0,
@@ -226,8 +224,8 @@ pub fn prove_blinded(
     challenges: &[u32],
     blinders: &[u32],
     scratch: &mut [u32],
-) -> Answer
-    ensures { Proves 1 p n l selectors.now labels.now witness.now publics.now transcript.old challenges.now blinders.now scratch.old result transcript.new scratch.new }
+) -> Result<(), Refusal>
+    ensures { Proves 1 p n l selectors.now labels.now witness.now publics.now transcript.old challenges.now blinders.now scratch.old (told result) transcript.new scratch.new }
 {
     run(
         1, p, n, l, selectors, labels, witness, publics, transcript, challenges, blinders, scratch,

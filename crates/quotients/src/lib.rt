@@ -33,7 +33,7 @@ pub fn fill(
     requires { Fillable e p n powers.now publics.now prepared.now laid.now out.old }
     ensures { out.new ≡ reduced p (f_length e n) (point_f e p n prepared.now (lent_public publics.now) laid.now beta gamma alpha) }
 {
-    transform::slices::clear(out);
+    out.fill(0);
     gates::add_public_gate(e, p, n, publics, prepared, laid, out);
     steps::add_step(e, p, n, powers, prepared, laid, beta, gamma, alpha, out);
     start::add_start(e, p, n, laid, alpha, out);

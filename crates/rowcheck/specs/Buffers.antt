@@ -3,17 +3,14 @@
 -- Checked p n selectors labels witness z challenges   what `check_rows` has checked: p and n are admissible, lengths and labels are right
 -- StepLent p n witness z own wired   p is not 0, there are at most 1,024 rows, and the lengths are right
 -- Tags p n labels own wired      the tags of the positions, and of those that the permutation of the labels leads to
--- is_pass v    the verdict is that every row holds
 --
 -- Assumes nothing.
-use Rattle.std.specs.Prelude.{◌≡◌, Bool, true, false, List, ℕ, ◌*◌, ◌≤◌, ◌<◌, length, get_or}
+use Rattle.std.specs.Prelude.{◌≡◌, List, ℕ, ◌*◌, ◌≤◌, ◌<◌, length, get_or}
 use Rattle.algebra.specs.Lists.{tab}
 use Rattle.field.specs.Fields.{Admissible, tag}
 use Rattle.circuit.specs.Circuit.{permutation}
 use Rattle.circuit.specs.Buffers.{selectors_length, labels_length, witness_length}
 use Rattle.circuit.specs.Ahead.{Labels}
-use Rattle.rowcheck.specs.declared.Verdict.{Verdict}
-use Rattle.rowcheck.specs.declared.Verdict.TheVariants.{None, Pass, Fails}
 
 pub record Checked (p n : ℕ) (selectors labels witness z challenges : List ℕ) : Type 0 where
   pub admissible : Admissible p n
@@ -35,8 +32,3 @@ pub record StepLent (p n : ℕ) (witness z own wired : List ℕ) : Type 0 where
 pub record Tags (p n : ℕ) (labels own wired : List ℕ) : Type 0 where
   pub own_tags : own ≡ tab (tag p n) (3 * n)
   pub wired_tags : wired ≡ tab (λ k. tag p n (permutation (3 * n) (λ j. get_or labels j 0) k)) (3 * n)
-
-abbrev pub is_pass : Verdict → Bool
-is_pass None = false
-is_pass Pass = true
-is_pass (Fails id i) = false

@@ -7,8 +7,8 @@
 -- ChecksRows        the same by that of today
 --
 -- Assumes nothing.
-use Rattle.std.specs.Prelude.{◌≡◌, cond, List, ℕ, get_or}
-use Rattle.field.specs.Reasons.{answer_of, is_accepted}
+use Rattle.std.specs.Prelude.{◌≡◌, cond, List, ℕ, get_or, Some, None}
+use Rattle.field.specs.Reasons.{Outcome, answer_of, is_accepted}
 use Rattle.circuit.specs.Circuit.{Layout, lent_constraints, lent_public, lent_by, by_rows}
 use Rattle.circuit.specs.Reasons.{rows_reasons}
 use Rattle.protocol.specs.Protocol.{gate_identity, start_identity, step_identity, RowVerdict, pass, fails, row_verdict}
@@ -16,8 +16,7 @@ use Rattle.protocol.specs.Protocol as protocol
 use Rattle.rowcheck.specs.declared.Identity.{Identity}
 use Rattle.rowcheck.specs.declared.Identity.TheVariants.{Gate, Start, Step}
 use Rattle.rowcheck.specs.declared.Verdict.{Verdict}
-use Rattle.rowcheck.specs.declared.Verdict.TheVariants.{None, Pass, Fails}
-use Rattle.rowcheck.specs.declared.RowAnswer.{RowAnswer}
+use Rattle.rowcheck.specs.declared.Verdict.TheVariants.{Pass, Fails}
 
 abbrev pub identity_of : protocol.Identity → Identity
 identity_of gate_identity = Gate
@@ -32,13 +31,13 @@ abbrev pub lent_z : List ℕ → ℕ → ℕ
 lent_z z i = get_or z i 0
 
 -- refused: no verdict; accepted: the verdict of the row check, with the challenges beta and gamma. All buffers are only read.
-pub record ChecksRowsWith (L : Layout) (p n l : ℕ) (selectors labels witness publics z challenges : List ℕ) (r : RowAnswer) : Type 0 where
+pub record ChecksRowsWith (L : Layout) (p n l : ℕ) (selectors labels witness publics z challenges : List ℕ) (r : Outcome Verdict) : Type 0 where
   pub answer : r.answer ≡ answer_of (rows_reasons p n l selectors labels witness publics z challenges)
   pub verdict :
-      r.verdict
+      r.value
       ≡ cond (is_accepted r.answer)
-      (verdict_of (row_verdict p n (lent_constraints n selectors labels) (lent_public publics) (lent_by L n witness) (lent_z z) (get_or challenges 0 0) (get_or challenges 1 0)))
+      (Some (verdict_of (row_verdict p n (lent_constraints n selectors labels) (lent_public publics) (lent_by L n witness) (lent_z z) (get_or challenges 0 0) (get_or challenges 1 0))))
       None
 
-abbrev pub ChecksRows : (p n l : ℕ) (selectors labels witness publics z challenges : List ℕ) (r : RowAnswer) → Type 0
+abbrev pub ChecksRows : (p n l : ℕ) (selectors labels witness publics z challenges : List ℕ) (r : Outcome Verdict) → Type 0
 ChecksRows = ChecksRowsWith by_rows

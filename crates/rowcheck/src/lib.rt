@@ -6,34 +6,28 @@
 ghost use Rattle.std.specs.Prelude.{◌≡◌, get_or};
 ghost use Rattle.circuit.specs.Circuit.{lent_constraints, lent_public, lent_witness};
 ghost use Rattle.protocol.specs.Protocol.{row_verdict};
+ghost use Rattle.field.specs.Reasons.{outcome};
 ghost use Rattle.rowcheck.specs.Promises.{verdict_of, lent_z, ChecksRows};
 ghost use Rattle.rowcheck.specs.Buffers.{Checked};
 
-use field::Answer;
+use field::Refusal;
 
 mod reasons;
 mod verdicts;
 
 // The identity that fails: the gate; z = 1 at row 0; the step from a row to the next.
-#[derive(Clone, Copy)]
+#[derive(Clone, Copy, Debug, PartialEq, Eq)]
 pub enum Identity {
     Gate,
     Start,
     Step,
 }
 
-// No verdict (the call is refused); every row holds; the first identity that fails, with its row.
-#[derive(Clone, Copy)]
+// Every row holds; or the first identity that fails, with its row.
+#[derive(Clone, Copy, Debug, PartialEq, Eq)]
 pub enum Verdict {
-    None,
     Pass,
     Fails(Identity, u32),
-}
-
-#[derive(Drop)]
-pub struct RowAnswer {
-    pub answer: Answer,
-    pub verdict: Verdict,
 }
 
 // The verdict on checked numbers: the tags are laid out once, and then the rows are judged.
@@ -79,17 +73,9 @@ pub fn check_rows(
     publics: &[u32],
     z: &[u32],
     challenges: &[u32],
-) -> RowAnswer
-    ensures { ChecksRows p n l selectors.now labels.now witness.now publics.now z.now challenges.now result }
+) -> Result<Verdict, Refusal>
+    ensures { ChecksRows p n l selectors.now labels.now witness.now publics.now z.now challenges.now (outcome result) }
 {
-    let answer = reasons::decide(p, n, l, selectors, labels, witness, publics, z, challenges);
-    let number = answer.number;
-    if number == 0 {
-        let verdict = work(p, n, selectors, labels, witness, publics, z, challenges);
-        return RowAnswer { answer, verdict };
-    }
-    RowAnswer {
-        answer,
-        verdict: Verdict::None,
-    }
+    reasons::decide(p, n, l, selectors, labels, witness, publics, z, challenges)?;
+    Ok(work(p, n, selectors, labels, witness, publics, z, challenges))
 }

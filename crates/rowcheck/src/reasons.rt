@@ -1,9 +1,9 @@
 // Why a call of `check_rows` is turned down, if it is. Nothing is written.
 ghost use Rattle.std.specs.Prelude.{◌≡◌};
-ghost use Rattle.field.specs.Reasons.{answer_of};
+ghost use Rattle.field.specs.Reasons.{told, answer_of};
 ghost use Rattle.circuit.specs.Reasons.{rows_reasons};
 
-use field::Answer;
+use field::Refusal;
 
 // The reasons in order: p, n, l and the lengths; then the numbers, the labels and the public rows in the buffers.
 pub fn decide(
@@ -16,8 +16,8 @@ pub fn decide(
     publics: &[u32],
     z: &[u32],
     challenges: &[u32],
-) -> Answer
-    ensures { result ≡ answer_of (rows_reasons p n l selectors.now labels.now witness.now publics.now z.now challenges.now) }
+) -> Result<(), Refusal>
+    ensures { told result ≡ answer_of (rows_reasons p n l selectors.now labels.now witness.now publics.now z.now challenges.now) }
 {
     let long = [
         selectors.len(),

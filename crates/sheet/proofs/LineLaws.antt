@@ -1,9 +1,7 @@
 -- The lines of a sheet: the search for the first one out of form, and the table that is filled line by line.
 --
--- bad_le               what the search for a line out of form finds is at most the line up to which is searched
 -- bad_before           what is found before line m is found before a later one too
 -- bad_behind           where nothing is found before line m, the search goes on from there
--- line_is              a line that was read where line i starts, as line i
 -- second_start         where line 1 starts
 -- next_start           where the line behind line i starts
 -- part_long            the words that are lent for k numbers are k
@@ -23,7 +21,7 @@ use borrow.Rule.Slice.PartMut.{put_mid, mid_of, post_of, mid_len}
 use Rattle.algebra.specs.Lists.{tab}
 use Rattle.algebra.specs.Search.{First, first_is}
 use Rattle.algebra.specs.Tables.{length-tab, get_or-tab}
-use Rattle.text.specs.Text.{number_at, field_at, is_line_at}
+use Rattle.text.specs.Text.{number_at, field_at}
 use Rattle.sheet.specs.Sheet.{fields_due, line_at, number_of, is_bad, bad_from}
 use Rattle.sheet.specs.Table.{table_place, Held}
 use Rattle.sheet.specs.Due.{due_most}
@@ -40,9 +38,6 @@ once {test} {start} {count} {r} {r'} f g = go (dec_lt r r') (dec_lt r' r)
 module _ (s : List ℕ) (n l i : ℕ) where
   abbrev searched : (m : ℕ) → First (is_bad s n l) i (m - i) (bad_from s n l i m)
   searched m = first_is (is_bad s n l) i (m - i)
-
-  pub bad_le : (m : ℕ) → i ≤ m → bad_from s n l i m ≤ m
-  bad_le m h = omega (arith, (searched m).high)
 
   pub bad_before : (m k : ℕ) → m ≤ k → bad_from s n l i m < m → bad_from s n l i k ≡ bad_from s n l i m
   bad_before m k h g =
@@ -63,10 +58,6 @@ module _ (s : List ℕ) (n l i : ℕ) where
       at : (j : ℕ) → i ≤ j → j < bad_from s n l m k → Dec (j < m) → is_bad s n l j ≡ false
       at j u v (yes w) = (searched m).none j u (omega arith)
       at j u v (no w) = (first_is (is_bad s n l) m (k - m)).none j (omega arith) v
-
-pub line_is : (s : List ℕ) (n l i at k : ℕ) (ok : Bool) → ok ≡ is_line_at s at k → at ≡ line_at s n l i → k ≡ fields_due n l i
-    → ok ≡ is_line_at s (line_at s n l i) (fields_due n l i)
-line_is s n l i at k ok e f g = e ∙ ap₂ (is_line_at s) f g
 
 pub second_start : (s : List ℕ) (n l : ℕ) → field_at s 0 3 ≡ line_at s n l 1
 unfolding line_at fields_due

@@ -4,7 +4,7 @@
 -- table_numbers          the reasons of all its numbers, e lines (0 or 1) being there of blinders
 -- Opened s p n l at      what is known where 1 does not apply: p, n, l, and line 1 starts at `at`
 -- prime_line s           1, 2 and 16: the reasons of a new sheet's first line up to that of its prime
--- Decides s reasons r t  what deciding by these reasons promises of its answer r and of the table t
+-- Decides s reasons r t  what deciding by these reasons promises of its outcome r and of the table t
 -- found                  p, n and l are those of the sheet, where none applies
 -- first_numbers, read_numbers   no reason of the first line has number 0, and none at all, where none of the lengths has
 -- Taken s                what is known of a sheet where no reason applies
@@ -21,22 +21,21 @@
 -- new_own                where no reason of the lengths applies, the answer is that of the new sheet's own reasons
 --
 -- Assumes nothing.
-use Rattle.std.specs.Prelude.{◌≡◌, refl, ◌≢◌, true, false, cond, List, [], ◌∷◌, ◌++◌, ℕ, ◌≤◌, ◌<◌, length}
+use Rattle.std.specs.Prelude.{◌≡◌, refl, ◌≢◌, true, false, cond, Some, None, List, [], ◌∷◌, ◌++◌, ℕ, ◌≤◌, ◌<◌, length}
 use Rattle.std.proofs.Common.{sym, ap, ◌∙◌, arith, eq-eqb}
 use Rattle.algebra.specs.Lists.{All, tab}
 use Rattle.algebra.specs.Tables.{length-tab, all_left}
-use Rattle.field.specs.declared.Answer.{Answer}
 use Rattle.field.specs.Fields.{is_field, is_current}
 use Rattle.field.specs.Lent.{Shape, shape_numbers, shaped}
-use Rattle.field.specs.Reasons.{Reason, answer_of, is_accepted, bad_rows, bad_publics, shape_reasons, bad_element, prime_reasons}
+use Rattle.field.specs.Reasons.{Answer, Outcome, Reason, answer_of, is_accepted, bad_rows, bad_publics, shape_reasons, bad_element, prime_reasons}
 use Rattle.field.specs.ReasonLaws.{answer_of-append, numbers_append, both_none, refused_first, current_numbers, prime_current, current_answer}
 use Rattle.circuit.specs.Buffers.{selectors_length, labels_length}
 use Rattle.circuit.specs.Reasons.{circuit_reasons}
 use Rattle.circuit.specs.RightlyLent.{RightCircuit, numbers_of_lem, circuit_of}
 use Rattle.text.specs.Text.{field_at}
-use Rattle.sheet.specs.declared.SheetAnswer.{SheetAnswer}
-use Rattle.sheet.specs.Sheet.{sheet_rows, sheet_p, sheet_n, sheet_l, is_blinded, on_selectors, on_labels, sheet_elements, bad_first, first_reasons, line_reasons, sheet_numbers, behind_reasons, read_reasons, read_answer, new_reasons, new_answer}
-use Rattle.sheet.specs.Table.{Tabled, selectors_in, labels_in, table_elements}
+use Rattle.sheet.specs.declared.Sheet.{Sheet}
+use Rattle.sheet.specs.Sheet.{sheet_rows, sheet_p, sheet_n, sheet_l, sheet_of, on_selectors, on_labels, sheet_elements, bad_first, first_reasons, line_reasons, sheet_numbers, behind_reasons, read_reasons, read_answer, new_reasons, new_answer}
+use Rattle.sheet.specs.Table.{HeldAll, selectors_in, labels_in, table_elements}
 
 abbrev pub table_circuit : ℕ → ℕ → List ℕ → List Reason
 table_circuit n l t = circuit_reasons n l (tab (selectors_in t n) (selectors_length n)) (tab (labels_in t n) (labels_length n))
@@ -55,19 +54,14 @@ pub record Opened (s : List ℕ) (p n l at : ℕ) : Type 0 where
 abbrev pub prime_line : List ℕ → List Reason
 prime_line s = bad_first s ∷ prime_reasons (sheet_p s)
 
-pub record Decides (s : List ℕ) (reasons : List Reason) (r : SheetAnswer) (t : List ℕ) : Type 0 where
+pub record Decides (s : List ℕ) (reasons : List Reason) (r : Outcome Sheet) (t : List ℕ) : Type 0 where
   pub answer : r.answer ≡ answer_of reasons
-  pub p_is : r.p ≡ cond (is_accepted r.answer) (sheet_p s) 0
-  pub n_is : r.n ≡ cond (is_accepted r.answer) (sheet_n s) 0
-  pub l_is : r.l ≡ cond (is_accepted r.answer) (sheet_l s) 0
-  pub blinded_is : r.blinded ≡ cond (is_accepted r.answer) (is_blinded s (sheet_n s) (sheet_l s)) false
-  pub tabled : r.answer.number ≡ 0 → Tabled s (sheet_n s) (sheet_l s) r.blinded t
+  pub value : r.value ≡ cond (is_accepted r.answer) (Some (sheet_of s)) None
+  pub held : r.answer.number ≡ 0 → HeldAll s (sheet_n s) (sheet_l s) t
 
-pub found : {s : List ℕ} {reasons : List Reason} {r : SheetAnswer} {t : List ℕ} → Decides s reasons r t → r.answer.number ≡ 0
-    → (r.p ≡ sheet_p s) × (r.n ≡ sheet_n s) × (r.l ≡ sheet_l s)
-found {r = r} D e =
-    let yes = eq-eqb r.answer.number 0 e in
-    (D.p_is ∙ rw yes, D.n_is ∙ rw yes, D.l_is ∙ rw yes)
+pub found : {s : List ℕ} {reasons : List Reason} {r : Outcome Sheet} {t : List ℕ} → Decides s reasons r t → r.answer.number ≡ 0
+    → r.value ≡ Some (sheet_of s)
+found {r = r} D e = D.value ∙ rw (eq-eqb r.answer.number 0 e)
 
 -- WHERE NO REASON APPLIES
 

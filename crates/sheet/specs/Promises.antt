@@ -1,24 +1,21 @@
 -- What `read` promises, in the terms of document 01.
 --
--- ReadsWith L s .. r ..   of its answer r, and of the five lent buffers after the call, s being the sheet and L the layout of the witness. The sheet is only read.
+-- ReadsWith L s .. r ..   of its outcome r, and of the five lent buffers after the call, s being the sheet and L the layout of the witness. The sheet is only read.
 -- Reads s .. r ..         the same by the layout of today
 --
 -- Assumes nothing.
-use Rattle.std.specs.Prelude.{◌≡◌, false, cond, List, ℕ, length}
-use Rattle.field.specs.Reasons.{answer_of, is_accepted}
+use Rattle.std.specs.Prelude.{◌≡◌, cond, List, ℕ, length, Some, None}
+use Rattle.field.specs.Reasons.{Outcome, answer_of, is_accepted}
 use Rattle.circuit.specs.Circuit.{Layout, by_rows}
 use Rattle.circuit.specs.Buffers.{selectors_length, labels_length, witness_length}
-use Rattle.sheet.specs.declared.SheetAnswer.{SheetAnswer}
-use Rattle.sheet.specs.Sheet.{sheet_rows, sheet_p, sheet_n, sheet_l, is_blinded, on_selectors, on_labels, on_witness_with, on_publics, padded, drawn_on, sheet_reasons_with}
+use Rattle.sheet.specs.declared.Sheet.{Sheet}
+use Rattle.sheet.specs.Sheet.{sheet_rows, sheet_n, sheet_l, sheet_of, on_selectors, on_labels, on_witness_with, on_publics, padded, drawn_on, sheet_reasons_with}
 
--- refused: p, n and l are 0, no line of blinders is said to be there, and every buffer is as it came; accepted: the numbers of the sheet as they are lent for its n, zeros behind
-pub record ReadsWith (L : Layout) (s selectors labels witness publics challenges : List ℕ) (r : SheetAnswer) (selectors' labels' witness' publics' challenges' : List ℕ)
+-- refused: nothing is said of the sheet, and every buffer is as it came; accepted: p, n, l, whether a line of blinders is there, and the numbers of the sheet as they are lent for its n, zeros behind
+pub record ReadsWith (L : Layout) (s selectors labels witness publics challenges : List ℕ) (r : Outcome Sheet) (selectors' labels' witness' publics' challenges' : List ℕ)
     : Type 0 where
   pub answer : r.answer ≡ answer_of (sheet_reasons_with L s (length selectors) (length labels) (length witness) (length publics) (length challenges))
-  pub p_is : r.p ≡ cond (is_accepted r.answer) (sheet_p s) 0
-  pub n_is : r.n ≡ cond (is_accepted r.answer) (sheet_n s) 0
-  pub l_is : r.l ≡ cond (is_accepted r.answer) (sheet_l s) 0
-  pub blinded_is : r.blinded ≡ cond (is_accepted r.answer) (is_blinded s (sheet_n s) (sheet_l s)) false
+  pub value : r.value ≡ cond (is_accepted r.answer) (Some (sheet_of s)) None
   pub selectors-laid :
       selectors' ≡ cond (is_accepted r.answer) (padded (selectors_length sheet_rows) (on_selectors s (sheet_n s) (sheet_l s)) (selectors_length (sheet_n s))) selectors
   pub labels-laid : labels' ≡ cond (is_accepted r.answer) (padded (labels_length sheet_rows) (on_labels s (sheet_n s) (sheet_l s)) (labels_length (sheet_n s))) labels
@@ -26,5 +23,5 @@ pub record ReadsWith (L : Layout) (s selectors labels witness publics challenges
   pub publics-laid : publics' ≡ cond (is_accepted r.answer) (padded sheet_rows (on_publics s (sheet_n s) (sheet_l s)) (sheet_l s)) publics
   pub challenges_laid : challenges' ≡ cond (is_accepted r.answer) (drawn_on s (sheet_n s) (sheet_l s)) challenges
 
-abbrev pub Reads : (s selectors labels witness publics challenges : List ℕ) (r : SheetAnswer) (selectors' labels' witness' publics' challenges' : List ℕ) → Type 0
+abbrev pub Reads : (s selectors labels witness publics challenges : List ℕ) (r : Outcome Sheet) (selectors' labels' witness' publics' challenges' : List ℕ) → Type 0
 Reads = ReadsWith by_rows

@@ -14,6 +14,7 @@
 -- sheet_p, sheet_n, sheet_l   p, n and l: the numbers of the first line
 -- is_blinded s n l       something stands behind the line of the challenges (document 02, request 9): it is the line of the blinders
 -- sheet_blinded s n l    the same as a number: how many such lines the sheet has
+-- sheet_of s             p, n and l, and whether the sheet has such a line
 -- is_bad s n l i         line i is missing or out of form
 -- bad_from s n l i m     the lowest such line from line i on; m where there is none before line m
 -- bad_line s n l         the lowest from line 1 on; the number of lines due where there is none
@@ -46,12 +47,12 @@
 use Rattle.std.specs.Prelude.{Bool, not, cond, ◌||◌, List, [], ◌∷◌, ◌++◌, ℕ, zero, suc, ◌+◌, ◌*◌, ◌-◌, ◌/◌, ◌%◌, eqb, leb, ltb, length, replicate}
 use Rattle.algebra.specs.Lists.{tab}
 use Rattle.algebra.specs.Modular.{first}
-use Rattle.field.specs.declared.Answer.{Answer}
-use Rattle.field.specs.Reasons.{Reason, answer_of, shape_reasons, bad_lengths, current_only}
+use Rattle.field.specs.Reasons.{Answer, Reason, answer_of, shape_reasons, bad_lengths, current_only}
 use Rattle.circuit.specs.Circuit.{Layout, by_rows}
 use Rattle.circuit.specs.Buffers.{selector_count, blinder_count, selectors_length, labels_length, witness_length}
 use Rattle.circuit.specs.Reasons.{number_reasons}
 use Rattle.text.specs.Text.{number_at, field_at, is_line_at}
+use Rattle.sheet.specs.declared.Sheet.{Sheet}
 
 abbrev pub sheet_rows : ℕ
 sheet_rows = 256
@@ -103,6 +104,9 @@ is_blinded s n l = ltb (line_at s n l (plain_lines n l)) (length s)
 
 abbrev pub sheet_blinded : List ℕ → ℕ → ℕ → ℕ
 sheet_blinded s n l = cond (is_blinded s n l) 1 0
+
+abbrev pub sheet_of : List ℕ → Sheet
+sheet_of s = record { p = sheet_p s; n = sheet_n s; l = sheet_l s; blinded = is_blinded s (sheet_n s) (sheet_l s) }
 
 abbrev pub is_bad : List ℕ → ℕ → ℕ → ℕ → Bool
 is_bad s n l i = not (is_line_at s (line_at s n l i) (fields_due n l i))

@@ -14,14 +14,11 @@ fn word(table: &[u32], block: Block, k: usize) -> u32
     requires { Fits table.now block }
     ensures { result ≡ cond (ltb k block.count) (in_table table.now block k) 0 }
 {
-    let start = block.start;
-    let run = block.run;
-    let step = block.step;
-    let leap = block.leap;
     if k < block.count {
-        return table[start + step * (k % run) + leap * (k / run)];
+        table[block.start + block.step * (k % block.run) + block.leap * (k / block.run)]
+    } else {
+        0
     }
-    0
 }
 
 // The place of the first number of a block that is p or more; the block's count where there is none.
@@ -29,15 +26,12 @@ pub fn above(p: u32, table: &[u32], block: Block) -> usize
     requires { Fits table.now block }
     ensures { result ≡ first_above p (tab (in_table table.now block) block.count) }
 {
-    let count = block.count;
-    let mut k = 0;
-    while k < count {
+    for k in 0..block.count {
         if p <= word(table, block, k) {
             return k;
         }
-        k += 1;
     }
-    k
+    block.count
 }
 
 // The same of blocks end to end: `long` numbers have been passed, of which `at` was the answer, and a block follows.
@@ -57,10 +51,8 @@ fn lay(table: &[u32], block: Block, out: &mut [u32])
     requires count_in_bounds { block.count ≤ length out.old }
     ensures { out.new ≡ padded (length out.old) (in_table table.now block) block.count }
 {
-    let mut k = 0;
-    while k < out.len() {
+    for k in 0..out.len() {
         out[k] = word(table, block, k);
-        k += 1;
     }
 }
 
@@ -79,9 +71,16 @@ fn lay_drawn(table: &[u32], e: usize, n: usize, l: usize, out: &mut [u32])
     requires { Full n l table.now × (e ≤ 1) × (length out.old ≡ drawn_count) }
     ensures { out.new ≡ table_drawn e n l table.now }
 {
-    let k = super::CHALLENGE_COUNT;
-    lay(table, blocks::challenges(n, l), &mut out[..k]);
-    lay(table, blocks::blinders(e, n, l), &mut out[k..]);
+    lay(
+        table,
+        blocks::challenges(n, l),
+        &mut out[..super::CHALLENGE_COUNT],
+    );
+    lay(
+        table,
+        blocks::blinders(e, n, l),
+        &mut out[super::CHALLENGE_COUNT..],
+    );
 }
 
 // What the circuit is filled with: witness, public inputs, and challenges with the blinders.

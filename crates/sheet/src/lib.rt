@@ -4,10 +4,11 @@
 // count from 0 in the code, as in the definitions.
 #![tactic(auto)]
 
-ghost use Rattle.std.specs.Prelude.{◌≡◌, cond, length};
+ghost use Rattle.std.specs.Prelude.{◌≡◌, cond};
+ghost use Rattle.field.specs.Reasons.{outcome};
 ghost use Rattle.sheet.specs.Promises.{Reads};
 
-use field::Answer;
+use field::Refusal;
 
 mod blocks;
 mod first;
@@ -19,12 +20,11 @@ mod table;
 
 pub use first::decide_prime;
 pub use reasons::decide;
-pub use table::{line_room, table_place, table_room};
+pub use table::{LINE_WORDS, TABLE_LENGTH, table_place};
 
-// The answer of `read`; whether the sheet has a line of blinders. If refused p, n and l are 0, and it is said to have none.
-#[derive(Drop)]
-pub struct SheetAnswer {
-    pub answer: Answer,
+// What `read` says of a sheet: p, n and l, and whether it has a line of blinders.
+#[derive(Clone, Copy, Debug, PartialEq, Eq)]
+pub struct Sheet {
     pub p: u32,
     pub n: u32,
     pub l: u32,
@@ -50,18 +50,11 @@ pub const GATE_FIELDS: usize = LABEL_FIELD + 3;
 pub fn blinder_lines(blinded: bool) -> usize
     ensures { result ≡ cond blinded 1 0 }
 {
-    if blinded {
-        return 1;
-    }
-    0
+    usize::from(blinded)
 }
 
 // One byte more than a sheet may have, for a program that reads one: input that fills it is too long, however much follows.
-pub fn sheet_room() -> [u8; 65537]
-    ensures { 65537 ≡ length result }
-{
-    [0; 65537]
-}
+pub const SHEET_ROOM: usize = 65537;
 
 // The numbers of a sheet, laid out for ROWS rows, the blinders behind the challenges. All refusals are found before a lent word is written.
 pub fn read(
@@ -71,11 +64,10 @@ pub fn read(
     witness: &mut [u32],
     publics: &mut [u32],
     challenges: &mut [u32],
-) -> SheetAnswer
-    ensures { Reads sheet.now selectors.old labels.old witness.old publics.old challenges.old result selectors.new labels.new witness.new publics.new challenges.new }
+) -> Result<Sheet, Refusal>
+    ensures { Reads sheet.now selectors.old labels.old witness.old publics.old challenges.old (outcome result) selectors.new labels.new witness.new publics.new challenges.new }
 {
-    let k = table::TABLE_LENGTH;
-    let mut table = table_room();
+    let mut table: [u32; TABLE_LENGTH] = field::room();
     let long = [
         sheet.len(),
         selectors.len(),
@@ -85,25 +77,17 @@ pub fn read(
         challenges.len(),
     ];
     let due = reasons::lengths_due(sheet.len());
-    let found = reasons::decide(sheet, &mut table[..k], &long, &due);
-    let answer = found.answer;
-    let number = answer.number;
-    if number == 0 {
-        let n = found.n as usize;
-        let l = found.l as usize;
-        let e = blinder_lines(found.blinded);
-        laying::lay_out(
-            &table[..k],
-            e,
-            n,
-            l,
-            selectors,
-            labels,
-            witness,
-            publics,
-            challenges,
-        );
-        return found;
-    }
-    found
+    let found = reasons::decide(sheet, &mut table, &long, &due)?;
+    laying::lay_out(
+        &table,
+        blinder_lines(found.blinded),
+        found.n as usize,
+        found.l as usize,
+        selectors,
+        labels,
+        witness,
+        publics,
+        challenges,
+    );
+    Ok(found)
 }

@@ -1,13 +1,13 @@
 // Why a sheet is turned down, if it is. Only the table is written, which is the reader's own.
-ghost use Rattle.std.specs.Prelude.{◌≡◌, false, ◌∷◌, [], ◌≤◌, length};
-ghost use Rattle.field.specs.Reasons.{answer_of, bad_lengths};
+ghost use Rattle.std.specs.Prelude.{◌≡◌, ◌∷◌, [], ◌≤◌, length, IfOk};
+ghost use Rattle.field.specs.Reasons.{told, outcome, answer_of, bad_lengths};
 ghost use Rattle.sheet.specs.Sheet.{sheet_due, behind_reasons, read_reasons};
 ghost use Rattle.sheet.specs.Table.{table_length, Tabled, Begins};
 ghost use Rattle.sheet.specs.Deciding.{Decides};
 
-use super::SheetAnswer;
-use super::lines::Lined;
-use field::Answer;
+use super::first::First;
+use super::{Sheet, first, lines, numbers};
+use field::Refusal;
 
 // The lengths due of `read`: of the sheet, which has whatever length it has, and of the five lent buffers.
 pub fn lengths_due(bytes: usize) -> [usize; 6]
@@ -24,75 +24,38 @@ pub fn lengths_due(bytes: usize) -> [usize; 6]
     ]
 }
 
-// The reasons behind those of the first line, `long` being the lengths of the call's buffers, and `due` those due. The table is filled.
+// The reasons behind those of the first line, `long` being the lengths of the call's buffers, and `due` those due. The table is filled where none applies; whether there
+// is a line of blinders.
 fn decide_behind(
     s: &[u8],
-    p: u32,
-    n: usize,
-    l: usize,
-    start: usize,
+    first: First,
     table: &mut [u32],
     long: &[usize],
     due: &[usize],
-) -> Lined
-    requires { Begins s.now n l 1 start table.old × (length long.now ≡ length due.now) × (length due.now ≤ 16) }
-    ensures answer_value { result.answer ≡ answer_of (behind_reasons s.now p n l (bad_lengths long.now due.now ∷ [])) }
-    ensures tabled { result.answer.number ≡ 0 → Tabled s.now n l result.blinded table.new }
+) -> Result<bool, Refusal>
+    requires { Begins s.now first.n first.l 1 first.next table.old × (length long.now ≡ length due.now) × (length due.now ≤ 16) }
+    ensures answer_value { told result ≡ answer_of (behind_reasons s.now first.p first.n first.l (bad_lengths long.now due.now ∷ [])) }
+    ensures tabled { IfOk result (λ blinded. Tabled s.now first.n first.l blinded table.new) }
 {
-    let lines = super::lines::decide_lines(s, n, l, start, table);
-    let answer = lines.answer;
-    let number = answer.number;
-    if number != 0 {
-        return lines;
-    }
-    let blinded = lines.blinded;
-    let answer = field::decide_lengths(long, due);
-    let number = answer.number;
-    if number != 0 {
-        return Lined { answer, blinded };
-    }
-    let e = super::blinder_lines(blinded);
-    let answer = super::numbers::decide_numbers(e, p, n, l, table);
-    Lined { answer, blinded }
-}
-
-// A refusal: p, n and l are 0, and no line of blinders is there.
-fn turned_down(answer: Answer) -> SheetAnswer
-    ensures { result ≡ record { answer = answer; p = 0; n = 0; l = 0; blinded = false } }
-{
-    SheetAnswer {
-        answer,
-        p: 0,
-        n: 0,
-        l: 0,
-        blinded: false,
-    }
+    let n = first.n as usize;
+    let l = first.l as usize;
+    let blinded = lines::decide_lines(s, n, l, first.next, table)?;
+    field::decide_lengths(long, due)?;
+    numbers::decide_numbers(super::blinder_lines(blinded), first.p, n, l, table)?;
+    Ok(blinded)
 }
 
 // All reasons of a call that reads a sheet, in order, `long` being the lengths of the call's buffers, and `due` those due. The table is filled where none applies.
-pub fn decide(s: &[u8], table: &mut [u32], long: &[usize], due: &[usize]) -> SheetAnswer
+pub fn decide(s: &[u8], table: &mut [u32], long: &[usize], due: &[usize]) -> Result<Sheet, Refusal>
     requires { (length table.old ≡ table_length) × (length long.now ≡ length due.now) × (length due.now ≤ 16) }
-    ensures { Decides s.now (read_reasons s.now (bad_lengths long.now due.now ∷ [])) result table.new }
+    ensures { Decides s.now (read_reasons s.now (bad_lengths long.now due.now ∷ [])) (outcome result) table.new }
 {
-    let first = super::first::decide_first(s);
-    let answer = first.answer;
-    let number = answer.number;
-    if number != 0 {
-        return turned_down(answer);
-    }
-    let n = first.n as usize;
-    let l = first.l as usize;
-    let behind = decide_behind(s, first.p, n, l, first.next, table, long, due);
-    let answer = behind.answer;
-    let number = answer.number;
-    if number != 0 {
-        return turned_down(answer);
-    }
-    SheetAnswer {
-        answer,
+    let first = first::decide_first(s)?;
+    let blinded = decide_behind(s, first, table, long, due)?;
+    Ok(Sheet {
         p: first.p,
         n: first.n,
         l: first.l,
-        blinded: behind.blinded,
-    }
+        blinded,
+    })
 }

@@ -1,6 +1,6 @@
 // The table of a sheet's numbers, line after line: LINE_WORDS words for each line, the first of which are its numbers.
-ghost use Rattle.std.specs.Prelude.{◌≡◌, ◌≤◌, ◌<◌, length};
-ghost use Rattle.sheet.specs.Table.{line_words, table_lines, table_length, table_place};
+ghost use Rattle.std.specs.Prelude.{◌≡◌, ◌≤◌, ◌<◌};
+ghost use Rattle.sheet.specs.Table.{line_words, table_lines, table_place};
 
 // The words of a line: at least as many as any line has numbers.
 pub const LINE_WORDS: usize = 9;
@@ -10,20 +10,6 @@ const TABLE_LINES: usize = 771;
 
 // The words of the table.
 pub const TABLE_LENGTH: usize = LINE_WORDS * TABLE_LINES;
-
-// Room for the table.
-pub fn table_room() -> [u32; TABLE_LENGTH]
-    ensures { table_length ≡ length result }
-{
-    [0; TABLE_LENGTH]
-}
-
-// Room for a line.
-pub fn line_room() -> [u32; LINE_WORDS]
-    ensures { line_words ≡ length result }
-{
-    [0; LINE_WORDS]
-}
 
 // Where field j of line i stands. A line of j numbers ends there.
 pub fn table_place(i: usize, j: usize) -> usize

@@ -4,15 +4,13 @@
 -- bytes_got      where it gave n bytes, so many were counted
 --
 -- Assumes nothing.
-use Rattle.std.specs.Prelude.{◌≡◌, List, ℕ}
+use Rattle.std.specs.Prelude.{◌≡◌, List, ℕ, None, Option, Some}
 use Rattle.std.proofs.Common.{subst}
 use Rattle.io.specs.Counts.{IsPrefixLen}
-use Rattle.streams.specs.declared.Got.{Got}
-use Rattle.streams.specs.declared.Got.TheVariants.{Bytes, Failed}
 
-abbrev pub bytes_of : Got → ℕ
-bytes_of (Bytes n) = n
-bytes_of Failed = 0
+abbrev pub bytes_of : Option ℕ → ℕ
+bytes_of (Some n) = n
+bytes_of None = 0
 
-pub bytes_got : (xs : List ℕ) {g : Got} {n : ℕ} → g ≡ Bytes n → IsPrefixLen (bytes_of g) xs → IsPrefixLen n xs
+pub bytes_got : (xs : List ℕ) {g : Option ℕ} {n : ℕ} → g ≡ Some n → IsPrefixLen (bytes_of g) xs → IsPrefixLen n xs
 bytes_got xs = subst (λ g. IsPrefixLen (bytes_of g) xs)

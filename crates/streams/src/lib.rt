@@ -18,13 +18,6 @@ const ENAMETOOLONG: i32 = 36;
 
 const EILSEQ: i32 = 84;
 
-// What reading gave: so many bytes, where the input ended or the room for it; or it failed, which is told.
-#[derive(Drop)]
-pub enum Got {
-    Bytes(usize),
-    Failed,
-}
-
 // Writes the system's word for an error to standard error, without its number, which std writes behind it.
 #[derive(Drop)]
 struct Word {
@@ -60,38 +53,37 @@ fn fail(rt: HostRuntime, what: &[u8], error: Error) {
     tell(rt, b"\n");
 }
 
-// Reads once, to the start of `out`: no bytes where the input ends. A failure is told under this name.
-fn read_some<R: Read>(rt: HostRuntime, from: &mut R, name: &[u8], out: &mut [u8]) -> Got
+// Reads once, to the start of `out`, and answers how many bytes: 0 where the input ends, none where it fails, which is told under this name.
+fn read_some<R: Read>(rt: HostRuntime, from: &mut R, name: &[u8], out: &mut [u8]) -> Option<usize>
     ensures { IsPrefixLen (bytes_of result) out.new }
 {
     match from.read(out) {
-        Ok(n) => Got::Bytes(n),
+        Ok(n) => Some(n),
         Err(error) => {
             fail(rt, name, error);
-            Got::Failed
+            None
         }
     }
 }
 
-// Reads till the input ends or there is no more room.
-fn read_all<R: Read>(rt: HostRuntime, from: &mut R, name: &[u8], out: &mut [u8]) -> Got
+// Reads till the input ends or there is no more room, and answers how many bytes.
+fn read_all<R: Read>(rt: HostRuntime, from: &mut R, name: &[u8], out: &mut [u8]) -> Option<usize>
     ensures { IsPrefixLen (bytes_of result) out.new }
 {
     let mut done = 0;
+    // Stays a while: a `for` would be no plainer, as a read gives as many bytes as it likes: no range says where the next one starts.
     while done < out.len() {
-        let Got::Bytes(more) = read_some(rt, from, name, &mut out[done..]) else {
-            return Got::Failed;
-        };
+        let more = read_some(rt, from, name, &mut out[done..])?;
         if more == 0 {
-            return Got::Bytes(done);
+            break;
         }
         done += more;
     }
-    Got::Bytes(done)
+    Some(done)
 }
 
-// Reads standard input.
-pub fn read_input(rt: HostRuntime, out: &mut [u8]) -> Got
+// Reads standard input: how many bytes, or none where that failed, which is told.
+pub fn read_input(rt: HostRuntime, out: &mut [u8]) -> Option<usize>
     ensures { IsPrefixLen (bytes_of result) out.new }
 {
     let mut input = rt.stdin();
@@ -106,21 +98,21 @@ fn open(rt: HostRuntime, name: &[u8]) -> Result<File, Error> {
     }
 }
 
-// Reads the file of this name.
-pub fn read_named(rt: HostRuntime, name: &[u8], out: &mut [u8]) -> Got
+// Reads the file of this name, likewise.
+pub fn read_named(rt: HostRuntime, name: &[u8], out: &mut [u8]) -> Option<usize>
     ensures { IsPrefixLen (bytes_of result) out.new }
 {
     match open(rt, name) {
         Ok(mut file) => read_all(rt, &mut file, name, out),
         Err(error) => {
             fail(rt, name, error);
-            Got::Failed
+            None
         }
     }
 }
 
-// Reads the file that argument i names.
-pub fn read_file(rt: HostRuntime, i: usize, out: &mut [u8]) -> Got
+// Reads the file that argument i names, likewise.
+pub fn read_file(rt: HostRuntime, i: usize, out: &mut [u8]) -> Option<usize>
     ensures { IsPrefixLen (bytes_of result) out.new }
 {
     let mut name = io::buffer();
@@ -132,20 +124,30 @@ pub fn read_file(rt: HostRuntime, i: usize, out: &mut [u8]) -> Got
                 FillError::TooLong => ENAMETOOLONG,
             };
             fail(rt, b"the name of a file", Error::from_raw_os_error(number));
-            Got::Failed
+            None
         }
     }
 }
 
-// Writes all of a text to standard output, and answers whether it could.
-pub fn print(rt: HostRuntime, text: &[u8]) -> bool {
-    match rt.write_all(text) {
-        Ok(()) => true,
+// None where writing to standard output failed, which is told.
+fn written(rt: HostRuntime, done: Result<(), Error>) -> Option<()> {
+    match done {
+        Ok(()) => Some(()),
         Err(error) => {
             fail(rt, b"standard output", error);
-            false
+            None
         }
     }
+}
+
+// Writes all of a text to standard output; none where that failed, which is told.
+pub fn print(rt: HostRuntime, text: &[u8]) -> Option<()> {
+    written(rt, rt.write_all(text))
+}
+
+// Writes a number to standard output, likewise.
+pub fn print_number(rt: HostRuntime, x: u64) -> Option<()> {
+    written(rt, rt.print(x))
 }
 
 // Writes a line to standard error.
@@ -164,12 +166,9 @@ pub fn arg_count(rt: HostRuntime) -> usize {
     usize::MAX
 }
 
-// Puts argument i at the start of `out`: how long it is, or 0 where there is none or it is longer than `out`.
-pub fn arg(rt: HostRuntime, i: usize, out: &mut [u8]) -> usize
-    ensures { IsPrefixLen result out.new }
+// Puts argument i at the start of `out`: how long it is, or none where it is not there or is longer than `out`.
+pub fn arg(rt: HostRuntime, i: usize, out: &mut [u8]) -> Option<usize>
+    ensures { IsPrefixLen (bytes_of result) out.new }
 {
-    match rt.arg(i, out) {
-        Ok(n) => n,
-        Err(_) => 0,
-    }
+    rt.arg(i, out).ok()
 }

@@ -1,74 +1,65 @@
 -- Laws of reading: a run of digits and its value capped at 2^32, against the definitions.
 --
--- stands_past, stands_inside   a byte that is not 0 stands nowhere past the text's end: where it stands, the text goes on
--- end_low, end_high            a run of digits ends no earlier than it starts, and within the text
--- in_form_is                   the tests of a number, on the capped value, are those of the definition
--- in_form_small                where they hold, the capped value is below 2^32
--- in_form_value                and it is the number
+-- digits_found   what a search of the text from `at` on gives is where the run of digits that starts there ends
+-- end_high       that is within the text
+-- number_told    the tests of a number on the capped value tell what is one, and which
 --
 -- Assumes nothing.
-use mathlib.Core.Path.{◌≡◌, sym, ap, ◌∙◌}
-use mathlib.Core.Bool.{Bool, true, false, not, ◌&&◌, ◌||◌, false≢true}
-use mathlib.Core.List.{List}
-use Prim.Native.Nat.{ℕ, ◌-◌, ◌≤◌, ◌<◌, min}
-use native.Mathlib.Decide.{dec_lt}
-use native.Mathlib.Omega.{arith}
-use lib.Dec.{eqb, ltb}
-use lib.ListN.{length, get_or, get_or-eq_default}
-use borrow.Author.Tests.{ltb-true, lt-ltb, le-ltb, ne_eqb}
-use Rattle.algebra.specs.Search.{First, first_is}
+use Rattle.std.specs.Prelude.{◌≡◌, refl, Bool, true, false, cond, not, ◌&&◌, ◌||◌, List, ℕ, zero, suc, ◌+◌, ◌-◌, ◌≤◌, ◌<◌, min, eqb, ltb, length, get_or, take, drop, Option, Some, None}
+use Rattle.std.specs.List.{position}
+use Rattle.std.specs.Option.{unwrap_or}
+use Rattle.std.proofs.Common.{sym, ap, ap₂, ◌∙◌, arith, add-zero, length-drop}
+use Rattle.std.proofs.Math.Seq.{take-length}
+use Rattle.std.proofs.Math.Nat.{add-suc}
+use Rattle.std.proofs.Math.Decide.{dec_lt}
+use Rattle.std.proofs.lemmas.List.{get_or-drop}
+use borrow.Author.Tests.{le-ltb}
+use Rattle.algebra.specs.Modular.{first}
+use Rattle.algebra.specs.Search.{first_is, first_position}
 use Rattle.text.specs.Text.{is_digit, digits_end, value_of, is_number_at, number_at}
 
-second : (a b : Bool) → (a && b) ≡ true → b ≡ true
-second true b e = e
-second false b e = absurd (false≢true e)
+-- a search from `at` on, and one from 0 on of what stands behind
+from_there : (t : ℕ → Bool) (at j n : ℕ) → at + first (λ k. t (at + k)) j n ≡ first t (at + j) n
+unfolding first
+from_there t at j zero = refl
+from_there t at j (suc n) =
+    elim (t (at + j))
+    as (λ b. at + (elim b [ true ↦ j | false ↦ first (λ k. t (at + k)) (suc j) n ]) ≡ (elim b [ true ↦ at + j | false ↦ first t (suc (at + j)) n ]))
+    [ true ↦ refl | false ↦ from_there t at (suc j) n ∙ ap (λ m. first t m n) (add-suc at j) ]
 
-pub stands_past : (s : List ℕ) (k b : ℕ) → 0 < b → length s ≤ k → eqb (get_or s k 0) b ≡ false
-stands_past s k b h l = ne_eqb (get_or s k 0) b (λ e. omega (arith, get_or-eq_default s 0 l))
+pub digits_found : (s : List ℕ) (at : ℕ) (o : Option ℕ) → o ≡ position (λ b. not (is_digit b)) (take (length s - at) (drop at s))
+    → at + unwrap_or o (length s - at) ≡ digits_end s at
+unfolding digits_end
+digits_found s at o e =
+    let all : take (length s - at) (drop at s) ≡ drop at s = ap (λ n. take n (drop at s)) (sym (length-drop at s)) ∙ take-length (drop at s) in
+    let found : unwrap_or o (length s - at) ≡ first (λ k. not (is_digit (get_or s (at + k) 0))) 0 (length s - at) =
+    ap₂ unwrap_or (e ∙ ap (position (λ b. not (is_digit b))) all) (sym (length-drop at s))
+    ∙ first_position (λ b. not (is_digit b)) (drop at s)
+    ∙ simp (get_or-drop, length-drop)
+    in
+    ap (λ n. at + n) found
+    ∙ from_there (λ k. not (is_digit (get_or s k 0))) at 0 (length s - at)
+    ∙ ap (λ n. first (λ k. not (is_digit (get_or s k 0))) n (length s - at)) (add-zero at)
 
-pub stands_inside : (s : List ℕ) (k b : ℕ) → 0 < b → eqb (get_or s k 0) b ≡ true → k < length s
-stands_inside s k b h e = go (dec_lt k (length s))
+pub end_high : (s : List ℕ) (at : ℕ) → at ≤ length s → digits_end s at ≤ length s
+unfolding digits_end
+end_high s at h = omega (arith, (first_is (λ k. not (is_digit (get_or s k 0))) at (length s - at)).high)
+
+and_false : (a : Bool) → (a && false) ≡ false
+and_false true = refl
+and_false false = refl
+
+-- the tests of a number and its value, where value and test are capped
+pub number_told : (s : List ℕ) (at k v : ℕ) (ok : Bool) → k ≡ digits_end s at - at → v ≡ min (value_of s at k) 4294967296
+    → ok ≡ ((ltb 0 k && (eqb k 1 || not (eqb (get_or s at 0) 48))) && ltb v 4294967296)
+    → cond ok (Some v) None ≡ cond (is_number_at s at) (Some (number_at s at)) None
+unfolding is_number_at number_at
+number_told s at k v ok d c e = go (dec_lt (value_of s at k) 4294967296)
   where
-    go : Dec (k < length s) → k < length s
-    go (yes l) = l
-    go (no l) = absurd (false≢true (sym (stands_past s k b h (omega arith)) ∙ e))
+    form : Bool
+    form = ltb 0 k && (eqb k 1 || not (eqb (get_or s at 0) 48))
 
-module _ (s : List ℕ) (at : ℕ) where
-  run : First (λ k. not (is_digit (get_or s k 0))) at (length s - at) (digits_end s at)
-  unfolding digits_end
-  run = first_is (λ k. not (is_digit (get_or s k 0))) at (length s - at)
-
-  pub end_low : at ≤ digits_end s at
-  end_low = run.low
-
-  pub end_high : at ≤ length s → digits_end s at ≤ length s
-  end_high h = omega (arith, run.high)
-
-  pub in_form_is : (end k v : ℕ) (ok : Bool) → end ≡ digits_end s at → k ≡ end - at → v ≡ min (value_of s at k) 4294967296
-      → ok ≡ ((ltb 0 k && (eqb k 1 || not (eqb (get_or s at 0) 48))) && ltb v 4294967296) → ok ≡ is_number_at s at
-  unfolding is_number_at
-  in_form_is end k v ok e f g t =
-      let d : k ≡ digits_end s at - at = omega arith in
-      t
-      ∙ ap (λ (t : Bool). (ltb 0 k && (eqb k 1 || not (eqb (get_or s at 0) 48))) && t) (below (value_of s at k) v g)
-      ∙ ap (λ (n : ℕ). (ltb 0 n && (eqb n 1 || not (eqb (get_or s at 0) 48))) && ltb (value_of s at n) 4294967296) d
-    where
-      below : (w v : ℕ) → v ≡ min w 4294967296 → ltb v 4294967296 ≡ ltb w 4294967296
-      below w v g = go (dec_lt w 4294967296)
-        where
-          go : Dec (w < 4294967296) → ltb v 4294967296 ≡ ltb w 4294967296
-          go (yes h) = lt-ltb v 4294967296 (omega arith) ∙ sym (lt-ltb w 4294967296 h)
-          go (no h) = le-ltb v 4294967296 (omega arith) ∙ sym (le-ltb w 4294967296 (omega arith))
-
-  pub in_form_small : (k v : ℕ) (ok : Bool) → ok ≡ ((ltb 0 k && (eqb k 1 || not (eqb (get_or s at 0) 48))) && ltb v 4294967296) → ok ≡ true
-      → v < 4294967296
-  in_form_small k v ok e f =
-      ltb-true v 4294967296 (second (ltb 0 k && (eqb k 1 || not (eqb (get_or s at 0) 48))) (ltb v 4294967296) (sym e ∙ f))
-
-  pub in_form_value : (end k v : ℕ) → end ≡ digits_end s at → k ≡ end - at → v ≡ min (value_of s at k) 4294967296 → v < 4294967296
-      → v ≡ number_at s at
-  unfolding number_at
-  in_form_value end k v e f g h =
-      let d : k ≡ digits_end s at - at = omega arith in
-      let w : v ≡ value_of s at k = omega arith in
-      w ∙ ap (value_of s at) d
+    go : Dec (value_of s at k < 4294967296) → cond ok (Some v) None ≡ cond (is_number_at s at) (Some (number_at s at)) None
+    go (yes h) = let w : v ≡ value_of s at k = omega arith in rw (e, w, d)
+    go (no h) =
+        rw (e, le-ltb v 4294967296 (omega arith), ← d, le-ltb (value_of s at k) 4294967296 (omega arith), and_false form) refl

@@ -3,69 +3,55 @@
 // The functions are for the layers above, which have checked the text's length.
 #![tactic(auto)]
 
-ghost use Rattle.std.specs.Prelude.{◌≡◌, true, not, ◌&&◌, ◌||◌, ◌+◌, ◌-◌, ◌≤◌, ◌<◌, min, eqb, ltb, length, get_or};
+ghost use Rattle.std.specs.Prelude.{◌≡◌, true, false, cond, not, ◌&&◌, ◌||◌, ◌+◌, ◌-◌, ◌≤◌, ◌<◌, min, eqb, ltb, length, get_or, MatchOption};
+ghost use Rattle.std.specs.List.{position};
 ghost use Rattle.algebra.specs.Lists.{tab};
 ghost use Rattle.text.specs.Text.{is_digit, digits_end, value_of, is_number_at, number_at, field_at, closing, is_line_at};
 
 mod writing;
 
-pub use writing::{clear, put_line, put_numbers, put_refused, put_word};
+pub use writing::{put_line, put_numbers, put_refused, put_word};
 
-// What stands at a place: whether it is a number, its value where it is one, and where its digits end.
+// What stands at a place: its value where it is a number, and where its digits end, whether it is one or not.
 #[derive(Drop)]
 pub struct Parsed {
-    pub ok: bool,
-    pub value: u32,
+    pub value: Option<u32>,
     pub next: usize,
 }
 
-// A line that was read: whether it is in form, and where the next one starts where it is.
-#[derive(Drop)]
-pub struct ParsedLine {
-    pub ok: bool,
-    pub next: usize,
-}
+// 2^32, which stands for every number that is not below it.
+const CAP: u64 = 4294967296;
 
 // The byte is a digit.
 fn is_digit(b: u8) -> bool
     ensures { result ≡ is_digit b }
 {
-    48 <= b && b <= 57
+    b.is_ascii_digit()
 }
 
 // What a digit writes; 0 for a byte below the digits.
 fn digit(b: u8) -> u64
     ensures { (result ≡ b - 48) × (result < 256) }
 {
-    if b < 48 {
-        return 0;
-    }
-    (b - 48) as u64
+    b.saturating_sub(48) as u64
 }
 
-// The number, or 2^32 where it is more.
-fn capped(v: u64) -> u64
-    ensures { result ≡ min v 4294967296 }
+// The place of the first byte that is no digit.
+fn other_byte(s: &[u8]) -> Option<usize>
+    ensures { result ≡ position (λ b. not (is_digit b)) s.now }
 {
-    if v < 4294967296 {
-        return v;
-    }
-    4294967296
+    s.iter().position(|b| !is_digit(*b))
 }
 
 // Where the run of digits that starts at `at` ends.
 fn digits_end(s: &[u8], at: usize) -> usize
     requires { at ≤ length s.now }
-    ensures { result ≡ digits_end s.now at }
+    ensures { (result ≡ digits_end s.now at) × (at ≤ result) × (result ≤ length s.now) }
 {
-    let mut i = at;
-    while i < s.len() {
-        if !is_digit(s[i]) {
-            return i;
-        }
-        i += 1;
+    match other_byte(&s[at..]) {
+        Some(k) => at + k,
+        None => s.len(),
     }
-    i
 }
 
 // The number that k digits from `at` on write, or 2^32 where it is more.
@@ -74,10 +60,8 @@ fn value(s: &[u8], at: usize, k: usize) -> u64
     ensures { result ≡ min (value_of s.now at k) 4294967296 }
 {
     let mut v: u64 = 0;
-    let mut i = 0;
-    while i < k {
-        v = capped(10 * v + digit(s[at + i]));
-        i += 1;
+    for i in 0..k {
+        v = CAP.min(10 * v + digit(s[at + i]));
     }
     v
 }
@@ -87,36 +71,24 @@ fn in_form(s: &[u8], at: usize, k: usize, v: u64) -> bool
     requires { at + k ≤ length s.now }
     ensures { result ≡ ((ltb 0 k && (eqb k 1 || not (eqb (get_or s.now at 0) 48))) && ltb v 4294967296) }
 {
-    if k == 0 {
-        return false;
-    }
-    if k == 1 {
-        return v < 4294967296;
-    }
-    s[at] != 48 && v < 4294967296
+    0 < k && (k == 1 || s[at] != 48) && v < CAP
 }
 
 // The number at `at`.
 pub fn number(s: &[u8], at: usize) -> Parsed
     requires { (at ≤ length s.now) × (length s.now ≤ 65536) }
-    ensures ok_value { result.ok ≡ is_number_at s.now at }
+    ensures value_value { result.value ≡ cond (is_number_at s.now at) (Some (number_at s.now at)) None }
     ensures next_value { result.next ≡ digits_end s.now at }
-    ensures value_value { result.ok ≡ true → result.value ≡ number_at s.now at }
 {
-    let end = digits_end(s, at);
-    let k = end - at;
+    let next = digits_end(s, at);
+    let k = next - at;
     let v = value(s, at, k);
-    if in_form(s, at, k, v) {
-        return Parsed {
-            ok: true,
-            value: v as u32,
-            next: end,
-        };
+    if !in_form(s, at, k, v) {
+        return Parsed { value: None, next };
     }
     Parsed {
-        ok: false,
-        value: 0,
-        next: end,
+        value: Some(v as u32),
+        next,
     }
 }
 
@@ -128,23 +100,17 @@ fn stands(s: &[u8], at: usize, b: u8) -> bool
     at < s.len() && s[at] == b
 }
 
-// The number at `at`, if the byte behind it is `close`.
-fn closed(s: &[u8], at: usize, close: u8) -> Parsed
+// The number at `at` and where its digits end, if the byte behind it is `close`.
+fn closed(s: &[u8], at: usize, close: u8) -> Option<(u32, usize)>
     requires { (at ≤ length s.now) × (length s.now ≤ 65536) × (0 < close) }
-    ensures ok_value { result.ok ≡ (is_number_at s.now at && eqb (get_or s.now (digits_end s.now at) 0) close) }
-    ensures next_value { result.next ≡ digits_end s.now at }
-    ensures value_value { result.ok ≡ true → (result.value ≡ number_at s.now at) × (result.next < length s.now) }
+    ensures { MatchOption result ((is_number_at s.now at && eqb (get_or s.now (digits_end s.now at) 0) close) ≡ false) (λ n. ((is_number_at s.now at && eqb (get_or s.now (digits_end s.now at) 0) close) ≡ true) × (n.0 ≡ number_at s.now at) × (n.1 ≡ digits_end s.now at) × (n.1 < length s.now)) }
 {
-    let n = number(s, at);
-    if !n.ok {
-        return n;
+    let Parsed { value, next } = number(s, at);
+    let value = value?;
+    if !stands(s, next, close) {
+        return None;
     }
-    let end = n.next;
-    Parsed {
-        ok: stands(s, end, close),
-        value: n.value,
-        next: end,
-    }
+    Some((value, next))
 }
 
 // The byte behind number j of a line of k: byte 10 behind the last, else a comma.
@@ -158,22 +124,16 @@ fn close_of(k: usize, j: usize) -> u8
     44
 }
 
-// A line of as many numbers as `out` has words, which starts at `at`.
-pub fn line(s: &[u8], at: usize, out: &mut [u32]) -> ParsedLine
+// A line of as many numbers as `out` has words, which starts at `at`: where the next one starts, if the line is in form.
+pub fn line(s: &[u8], at: usize, out: &mut [u32]) -> Option<usize>
     requires { (at ≤ length s.now) × (length s.now ≤ 65536) × (0 < length out.old) }
-    ensures ok_value { result.ok ≡ is_line_at s.now at (length out.old) }
-    ensures next_value { result.ok ≡ true → (result.next ≡ field_at s.now at (length out.old)) × (result.next ≤ length s.now) × (out.new ≡ tab (λ j. number_at s.now (field_at s.now at j)) (length out.old)) }
+    ensures { MatchOption result (is_line_at s.now at (length out.old) ≡ false) (λ next. (is_line_at s.now at (length out.old) ≡ true) × (next ≡ field_at s.now at (length out.old)) × (next ≤ length s.now) × (out.new ≡ tab (λ j. number_at s.now (field_at s.now at j)) (length out.old))) }
 {
     let mut next = at;
-    let mut j = 0;
-    while j < out.len() {
-        let n = closed(s, next, close_of(out.len(), j));
-        if !n.ok {
-            return ParsedLine { ok: false, next };
-        }
-        out[j] = n.value;
-        next = n.next + 1;
-        j += 1;
+    for j in 0..out.len() {
+        let (value, end) = closed(s, next, close_of(out.len(), j))?;
+        out[j] = value;
+        next = end + 1;
     }
-    ParsedLine { ok: true, next }
+    Some(next)
 }

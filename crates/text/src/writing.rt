@@ -1,5 +1,5 @@
 // Numbers and lines in a text of bytes: writing. Each function puts a run of bytes at a place of a buffer, and answers where the next byte goes.
-ghost use Rattle.std.specs.Prelude.{◌≡◌, ◌∷◌, [], ◌+◌, ◌*◌, ◌<◌, ◌≤◌, length, replicate};
+ghost use Rattle.std.specs.Prelude.{◌≡◌, ◌∷◌, [], ◌+◌, ◌*◌, ◌<◌, ◌≤◌, length};
 ghost use Rattle.text.specs.Text.{decimal_of, decimal, fields_text, line_text, line_of, refused_text};
 ghost use Rattle.text.specs.Puts.{field_bytes, Puts};
 
@@ -42,10 +42,8 @@ fn put_fields(vs: &[u32], out: &mut [u8], at: usize) -> usize
     ensures { Puts at (fields_text vs.now) out.old result out.new }
 {
     let mut next = at;
-    let mut i = 0;
-    while i < vs.len() {
-        next = put_field(vs[i], out, next);
-        i += 1;
+    for v in vs {
+        next = put_field(*v, out, next);
     }
     next
 }
@@ -55,13 +53,9 @@ pub fn put_word(word: &[u8], out: &mut [u8], at: usize) -> usize
     requires { at + length word.now ≤ length out.old }
     ensures { Puts at word.now out.old result out.new }
 {
-    let mut next = at;
-    let mut i = 0;
-    while i < word.len() {
-        next = put_byte(word[i], out, next);
-        i += 1;
-    }
-    next
+    let end = at + word.len();
+    out[at..end].copy_from_slice(word);
+    end
 }
 
 // A line that begins with a word: the word, its fields, and byte 10.
@@ -80,8 +74,7 @@ pub fn put_numbers(vs: &[u32], out: &mut [u8], at: usize) -> usize
     ensures { Puts at (line_of vs.now) out.old result out.new }
 {
     let second = put_digits(10, vs[0], out, at);
-    let one = 1;
-    let third = put_fields(&vs[one..], out, second);
+    let third = put_fields(&vs[1..], out, second);
     put_byte(10, out, third)
 }
 
@@ -90,17 +83,5 @@ pub fn put_refused(number: u32, detail: u32, out: &mut [u8]) -> usize
     requires { 30 ≤ length out.old }
     ensures { Puts 0 (refused_text number detail) out.old result out.new }
 {
-    let fields = [number, detail];
-    put_line(b"refused", &fields, out, 0)
-}
-
-// Zeros.
-pub fn clear(out: &mut [u8])
-    ensures { out.new ≡ replicate (length out.old) 0 }
-{
-    let mut i = 0;
-    while i < out.len() {
-        out[i] = 0;
-        i += 1;
-    }
+    put_line(b"refused", &[number, detail], out, 0)
 }

@@ -11,8 +11,7 @@ use Rattle.std.specs.Prelude.{◌≡◌, refl, Bool, true, false, cond, List, []
 use Rattle.std.proofs.Common.{sym, ap, ◌∙◌, true≢false}
 use Rattle.algebra.specs.Lists.{All}
 use Rattle.algebra.specs.Tables.{all_append, all_left, all_right}
-use Rattle.field.specs.declared.Answer.{Answer}
-use Rattle.field.specs.Reasons.{Reason, answer_of, is_accepted, first_above, bad_element}
+use Rattle.field.specs.Reasons.{Answer, Reason, answer_of, is_accepted, first_above, bad_element}
 use Rattle.field.specs.ReasonLaws.{elements_of, elements_none}
 use Rattle.circuit.specs.Buffers.{witness_length}
 use Rattle.transfer.specs.Transfer.{to_rows}

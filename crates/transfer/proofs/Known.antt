@@ -2,7 +2,6 @@
 --
 -- Known n from to     n is at most 1,024, and both buffers have 3n numbers
 -- known               an answer with number 0 means that it holds
--- made, kept          the promise of a call that wrote what it should, and of one that wrote nothing
 --
 -- Assumes nothing.
 use mathlib.Core.Path.{◌≡◌, refl, sym, ap, ◌∙◌}
@@ -10,14 +9,13 @@ use mathlib.Core.List.{List, [], ◌∷◌}
 use Prim.Native.Nat.{ℕ, ◌≤◌}
 use native.Mathlib.Omega.{arith}
 use lib.ListN.{length}
-use borrow.Author.Tests.{not-false, eq-eqb, ne_eqb}
-use Rattle.field.specs.declared.Answer.{Answer}
+use borrow.Author.Tests.{not-false}
 use Rattle.field.specs.Lent.{lengths_same}
-use Rattle.field.specs.Reasons.{answer_of}
+use Rattle.field.specs.Reasons.{Answer, answer_of}
 use Rattle.field.specs.ReasonLaws.{none_applies}
 use Rattle.circuit.specs.AnyRows.{any_rows_lem}
 use Rattle.circuit.specs.Buffers.{witness_length}
-use Rattle.transfer.specs.Transfer.{transfer_due, transfer_reasons, Transfers}
+use Rattle.transfer.specs.Transfer.{transfer_due, transfer_reasons}
 
 pub record Known (n : ℕ) (from to : List ℕ) : Type 0 where
   pub few : n ≤ 1024
@@ -30,9 +28,3 @@ module _ (n : ℕ) (from to : List ℕ) (a : Answer) (e : a ≡ answer_of (trans
       let none = none_applies (transfer_reasons n from to) (omega arith, (omega arith, tt)) (sym (ap (λ (b : Answer). b.number) e) ∙ z) in
       let same = lengths_same (length from ∷ length to ∷ []) (transfer_due n) refl none.1.0 in
       record { few = (any_rows_lem n (not-false _ none.0)).most; from_long = cc same; to_long = cc same }
-
-  pub made : (transfer : List ℕ → List ℕ) (to' : List ℕ) → a.number ≡ 0 → to' ≡ transfer from → Transfers n transfer from to a to'
-  made transfer to' z f = record { answer = e; written = rw (eq-eqb a.number 0 z) f }
-
-  pub kept : (transfer : List ℕ → List ℕ) → (a.number ≡ 0 → ⊥) → Transfers n transfer from to a to
-  kept transfer h = record { answer = e; written = rw (ne_eqb a.number 0 h) }

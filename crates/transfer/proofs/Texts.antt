@@ -21,8 +21,7 @@ use Rattle.std.proofs.Math.Decide.{ℕ_discrete}
 use Rattle.algebra.specs.Ends.{run_room}
 use Rattle.algebra.specs.Lists.{tab}
 use Rattle.algebra.specs.Tables.{length-tab, get_or-tab, tab_ext}
-use Rattle.field.specs.declared.Answer.{Answer}
-use Rattle.field.specs.Reasons.{is_accepted, current_only}
+use Rattle.field.specs.Reasons.{Answer, is_accepted, current_only}
 use Rattle.transform.specs.Parts.{laid}
 use Rattle.circuit.specs.Circuit.{Layout, position, lent_constraints, lent_public, lent_by, laid_by, by_rows, lent_witness}
 use Rattle.circuit.specs.Buffers.{witness_length, transcript_length, work_length}

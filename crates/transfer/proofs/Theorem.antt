@@ -1,6 +1,7 @@
 -- The theorems that specs/Theorem lists, with their proofs.
 -- Assumes nothing.
-use Rattle.std.specs.Prelude.{◌≡◌, refl, ◌⊎◌, Bool, cond, length, get_or}
+use Rattle.std.specs.Prelude.{◌≡◌, refl, ◌⊎◌, Bool, cond, length, get_or, Option, Some, None}
+use Rattle.std.specs.Option.{unwrap_or}
 use Rattle.std.proofs.Common.{sym, ap, ap₂, ◌∙◌, inl, inr, arith, eqb-true}
 use Rattle.std.proofs.Math.Bool.{true, false}
 use mathlib.Core.List.{List, [], ◌∷◌, ◌++◌}
@@ -10,25 +11,20 @@ use Rattle.std.proofs.Math.ListN.{take, drop, replicate}
 use Rattle.std.proofs.Math.Seq.{take_at, drop_at}
 use Rattle.algebra.specs.Lists.{tab}
 use Rattle.algebra.specs.Tables.{length-tab}
-use Rattle.field.specs.declared.Answer.{Answer}
-use Rattle.field.specs.Reasons.{Reason, is_accepted, bad_lengths, lent_reasons, current_only}
+use Rattle.field.specs.Reasons.{Outcome, given, Answer, Reason, is_accepted, bad_lengths, lent_reasons, current_only}
 use Rattle.circuit.specs.Circuit.{Constraints, lent_constraints, lent_public, lent_by, laid_by, lent_witness}
 use Rattle.circuit.specs.Buffers.{witness_length, work_length}
 use Rattle.circuit.specs.Reasons.{circuit_reasons, rows_due}
 use Rattle.protocol.proofs.SameValues.{verdict_ext, proved_ext, lost_ext}
-use Rattle.rowcheck.specs.declared.RowAnswer.{RowAnswer}
-use Rattle.rowcheck.specs.declared.Verdict.TheVariants.{None}
+use Rattle.rowcheck.specs.declared.Verdict.{Verdict}
 use Rattle.rowcheck.specs.Promises.{verdict_of, lent_z, ChecksRows}
 use Rattle.prover.specs.Promises.{Proves}
-use Rattle.losses.specs.declared.Counted.{Counted}
 use Rattle.losses.specs.Losses.{lost_due, LosesGammas}
-use Rattle.sheet.specs.declared.SheetAnswer.{SheetAnswer}
-use Rattle.sheet.specs.Sheet.{sheet_rows, sheet_p, sheet_n, sheet_l, on_witness_with, on_witness, padded, first_reasons, line_reasons, sheet_lengths, new_reasons_with, new_reasons}
+use Rattle.sheet.specs.declared.Sheet.{Sheet}
+use Rattle.sheet.specs.Sheet.{sheet_of, sheet_rows, sheet_p, sheet_n, sheet_l, on_witness_with, on_witness, padded, first_reasons, line_reasons, sheet_lengths, new_reasons_with, new_reasons}
 use Rattle.sheet.specs.Promises.{Reads}
-use Rattle.joining.specs.declared.Joined.{Joined}
 use Rattle.joining.specs.Joining.{joined_text_with, joined_text, joined_length, join_due, pair_reasons, Joins}
 use Rattle.joining.specs.Deciding.{joinable_of}
-use Rattle.archive.specs.declared.Deposited.{Deposited}
 use Rattle.archive.specs.Printed.{text_length}
 use Rattle.archive.specs.Deposit.{deposit_text_with, deposit_text, Deposits}
 use Rattle.transfer.specs.Transfer.{to_rows}
@@ -36,7 +32,7 @@ use Rattle.transfer.specs.Columns.{by_columns, ChecksRowsByColumns, ProvesByColu
 use Rattle.transfer.proofs.AsBefore.{accepted_same, as_then, as_transferred}
 use Rattle.transfer.proofs.Reasons.{same_values, same_long, prove_as_before, read_transferred, numbers_as_before}
 use Rattle.transfer.proofs.Texts.{TextAsBefore, text_as_before, joined_as_before}
-use Rattle.transfer.specs.Theorem.{RowsAsBefore, ProofAsBefore, CountAsBefore, ReadAsBefore, DepositAsBefore, JoinAsBefore}
+use Rattle.transfer.specs.Theorem.{rows_given, RowsAsBefore, ProofAsBefore, CountAsBefore, ReadAsBefore, DepositAsBefore, JoinAsBefore}
 
 -- CALLS THAT ARE LENT A WITNESS
 
@@ -54,7 +50,7 @@ module _ (p n : ℕ) (columns : List ℕ) (long : length columns ≡ witness_len
     abbrev gamma : ℕ
     gamma = get_or challenges 1 0
 
-    pub rows_as_before : (z : List ℕ) (r' r : RowAnswer)
+    pub rows_as_before : (z : List ℕ) (r' r : Outcome Verdict)
         → ChecksRows p n l selectors labels (to_rows n columns) publics z challenges r' → ChecksRowsByColumns p n l selectors labels columns publics z challenges r
         → RowsAsBefore r' r
     rows_as_before z r' r new old =
@@ -62,7 +58,7 @@ module _ (p n : ℕ) (columns : List ℕ) (long : length columns ≡ witness_len
           answer = answers;
           verdict =
               new.verdict
-              ∙ ap₂ (λ b v. cond b (verdict_of v) None) (accepted_same answers)
+              ∙ ap₂ (λ b v. cond b (Some (verdict_of v)) None) (accepted_same answers)
               (verdict_ext p n (lent_witness n rows) (lent_by by_columns n columns) (same_values n columns) C (lent_public publics) beta gamma (lent_z z) (lent_z z) (λ i h. refl))
               ∙ sym old.verdict;
         }
@@ -95,14 +91,14 @@ module _ (p n : ℕ) (columns : List ℕ) (long : length columns ≡ witness_len
             (proved_ext p n (lent_witness n rows) (lent_by by_columns n columns) (same_values n columns) C (lent_public publics) e blinders beta gamma (get_or challenges 2 0))
             ∙ sym old.lays
 
-  pub count_as_before : (challenges : List ℕ) (r' r : Counted) → LosesGammas p n (to_rows n columns) challenges r' → LosesGammasByColumns p n columns challenges r
+  pub count_as_before : (challenges : List ℕ) (r' r : Outcome ℕ) → LosesGammas p n (to_rows n columns) challenges r' → LosesGammasByColumns p n columns challenges r
       → CountAsBefore r' r
   count_as_before challenges r' r new old =
       record {
         answer = answers;
         count =
             new.count
-            ∙ ap₂ (λ b k. cond b k 0) (accepted_same answers)
+            ∙ ap₂ (λ b k. cond b (Some k) None) (accepted_same answers)
             (lost_ext p n (lent_witness n rows) (lent_by by_columns n columns) (same_values n columns) (get_or challenges 0 0))
             ∙ sym old.count;
       }
@@ -134,20 +130,21 @@ module _ (s selectors labels witness publics challenges : List ℕ) where
       rw (e, f, front, behind, read_transferred s n l)
   laid_now false m witness' e f = rw (e, f)
 
-  pub read_as_before : (r' : SheetAnswer) (selectors' labels' witness' publics' challenges' : List ℕ) (r : SheetAnswer) (selectors'' labels'' witness'' publics'' challenges'' : List ℕ)
+  rows_are : (b : Bool) (o : Option Sheet) → o ≡ cond b (Some (sheet_of s)) None → rows_given (record { answer = record { number = 0; detail = 0 }; value = o }) ≡ cond b (sheet_n s) 0
+  rows_are true o e = rw e
+  rows_are false o e = rw e
+
+  pub read_as_before : (r' : Outcome Sheet) (selectors' labels' witness' publics' challenges' : List ℕ) (r : Outcome Sheet) (selectors'' labels'' witness'' publics'' challenges'' : List ℕ)
       → Reads s selectors labels witness publics challenges r' selectors' labels' witness' publics' challenges'
       → ReadsByColumns s selectors labels witness publics challenges r selectors'' labels'' witness'' publics'' challenges''
       → ReadAsBefore r' selectors' labels' witness' publics' challenges' r selectors'' labels'' witness'' publics'' challenges''
   read_as_before r' selectors' labels' witness' publics' challenges' r selectors'' labels'' witness'' publics'' challenges'' new old =
       record {
         answer = answers;
-        p_is = new.p_is ∙ rw same (sym old.p_is);
-        n_is = new.n_is ∙ rw same (sym old.n_is);
-        l_is = new.l_is ∙ rw same (sym old.l_is);
-        blinded_is = new.blinded_is ∙ rw same (sym old.blinded_is);
+        sheet = new.value ∙ rw same (sym old.value);
         selectors-laid = new.selectors-laid ∙ rw same (sym old.selectors-laid);
         labels-laid = new.labels-laid ∙ rw same (sym old.labels-laid);
-        witness-laid = new.witness-laid ∙ rw same (laid_now (is_accepted r.answer) r.n witness'' old.n_is old.witness-laid);
+        witness-laid = new.witness-laid ∙ rw same (laid_now (is_accepted r.answer) (rows_given r) witness'' (rows_are (is_accepted r.answer) r.value old.value) old.witness-laid);
         publics-laid = new.publics-laid ∙ rw same (sym old.publics-laid);
         challenges_laid = new.challenges_laid ∙ rw same (sym old.challenges_laid);
       }
@@ -167,7 +164,7 @@ module _ (s selectors labels witness publics challenges : List ℕ) where
 refuses : (text zeros : List ℕ) (k : ℕ) (buffer : List ℕ) → k ≡ length text → buffer ≡ text ++ zeros → RefusesElement text → RefusesElement (take k buffer)
 refuses text zeros k buffer e f R = record { detail = R.detail; is = rw (e, f, take_at text zeros (length text) refl) R.is }
 
-pub deposit_as_before : (s text : List ℕ) (r' : Deposited) (text' : List ℕ) (r : Deposited) (text'' : List ℕ)
+pub deposit_as_before : (s text : List ℕ) (r' : Outcome ℕ) (text' : List ℕ) (r : Outcome ℕ) (text'' : List ℕ)
     → Deposits s text r' text' → DepositsByColumns s text r text'' → DepositAsBefore r' text' r text''
 deposit_as_before s text r' text' r text'' new old =
     record {
@@ -182,17 +179,17 @@ deposit_as_before s text r' text' r text'' new old =
     same = ap is_accepted answers
 
     go : (b : Bool) → TextAsBefore (deposit_text s) (deposit_text_with by_columns s)
-        → r'.length ≡ cond b (length (deposit_text s)) 0 → text' ≡ cond b (deposit_text s ++ replicate (text_length - length (deposit_text s)) 0) text
-        → r.length ≡ cond b (length (deposit_text_with by_columns s)) 0
+        → r'.value ≡ cond b (Some (length (deposit_text s))) None → text' ≡ cond b (deposit_text s ++ replicate (text_length - length (deposit_text s)) 0) text
+        → r.value ≡ cond b (Some (length (deposit_text_with by_columns s))) None
         → text'' ≡ cond b (deposit_text_with by_columns s ++ replicate (text_length - length (deposit_text_with by_columns s)) 0) text
-        → ((r'.length ≡ r.length) × (text' ≡ text'')) ⊎ (RefusesElement (take r'.length text') × RefusesElement (take r.length text''))
+        → ((r'.value ≡ r.value) × (text' ≡ text'')) ⊎ (RefusesElement (take (given r') text') × RefusesElement (take (given r) text''))
     go true (inl t) e' f' e f = inl (e' ∙ rw t (sym e), f' ∙ rw t (sym f))
-    go true (inr t) e' f' e f = inr (refuses _ _ _ _ e' f' t.0, refuses _ _ _ _ e f t.1)
+    go true (inr t) e' f' e f = inr (refuses _ _ _ _ (ap (λ o. unwrap_or o 0) e') f' t.0, refuses _ _ _ _ (ap (λ o. unwrap_or o 0) e) f t.1)
     go false t e' f' e f = inl (e' ∙ sym e, f' ∙ sym f)
 
 -- JOINED SHEETS
 
-module _ (one two joined : List ℕ) (r' : Joined) (joined' : List ℕ) (r : Joined) (joined'' : List ℕ) (new : Joins one two joined r' joined')
+module _ (one two joined : List ℕ) (r' : Outcome ℕ) (joined' : List ℕ) (r : Outcome ℕ) (joined'' : List ℕ) (new : Joins one two joined r' joined')
     (old : JoinsByColumns one two joined r joined'') where
   -- 6, for the length of the written buffer
   abbrev lengths : List Reason
@@ -233,6 +230,6 @@ module _ (one two joined : List ℕ) (r' : Joined) (joined' : List ℕ) (r : Joi
   join_as_before =
       record {
         answer = answers;
-        long = new.long ∙ written length 0 ∙ sym old.long;
+        long = new.long ∙ written (λ text. Some (length text)) None ∙ sym old.long;
         written = new.written ∙ written (λ text. text ++ replicate (joined_length - length text) 0) joined ∙ sym old.written;
       }

@@ -11,23 +11,20 @@
 -- RefusesElement t         the text t is the line of a refusal with 7
 --
 -- Assumes nothing.
+use Rattle.field.specs.Reasons.{Outcome, Answer}
 use Rattle.std.specs.Prelude.{◌≡◌, List, ℕ}
 use Rattle.algebra.specs.Lists.{tab}
-use Rattle.field.specs.declared.Answer.{Answer}
 use Rattle.circuit.specs.Circuit.{Layout}
 use Rattle.circuit.specs.Buffers.{witness_length}
-use Rattle.rowcheck.specs.declared.RowAnswer.{RowAnswer}
+use Rattle.rowcheck.specs.declared.Verdict.{Verdict}
 use Rattle.rowcheck.specs.Promises.{ChecksRowsWith}
 use Rattle.prover.specs.Promises.{ProvesWith}
-use Rattle.losses.specs.declared.Counted.{Counted}
 use Rattle.losses.specs.Losses.{LosesGammasWith}
 use Rattle.text.specs.Text.{refused_text}
-use Rattle.sheet.specs.declared.SheetAnswer.{SheetAnswer}
+use Rattle.sheet.specs.declared.Sheet.{Sheet}
 use Rattle.sheet.specs.Sheet.{on_witness_with}
 use Rattle.sheet.specs.Promises.{ReadsWith}
-use Rattle.joining.specs.declared.Joined.{Joined}
 use Rattle.joining.specs.Joining.{JoinsWith}
-use Rattle.archive.specs.declared.Deposited.{Deposited}
 use Rattle.archive.specs.Deposit.{DepositsWith}
 
 unfoldable pub by_columns : Layout
@@ -35,14 +32,14 @@ by_columns = record { place = λ n k. k; position_at = λ n j. j }
 
 -- CALLS THAT ARE LENT A WITNESS
 
-abbrev pub ChecksRowsByColumns : (p n l : ℕ) (selectors labels witness publics z challenges : List ℕ) (r : RowAnswer) → Type 0
+abbrev pub ChecksRowsByColumns : (p n l : ℕ) (selectors labels witness publics z challenges : List ℕ) (r : Outcome Verdict) → Type 0
 ChecksRowsByColumns = ChecksRowsWith by_columns
 
 abbrev pub ProvesByColumns : (e p n l : ℕ) (selectors labels witness publics transcript challenges blinders scratch : List ℕ) (r : Answer) (transcript' scratch' : List ℕ)
     → Type 0
 ProvesByColumns = ProvesWith by_columns
 
-abbrev pub LosesGammasByColumns : (p n : ℕ) (witness challenges : List ℕ) (r : Counted) → Type 0
+abbrev pub LosesGammasByColumns : (p n : ℕ) (witness challenges : List ℕ) (r : Outcome ℕ) → Type 0
 LosesGammasByColumns = LosesGammasWith by_columns
 
 -- CALLS THAT READ SHEETS
@@ -50,13 +47,13 @@ LosesGammasByColumns = LosesGammasWith by_columns
 abbrev pub columns_read : List ℕ → ℕ → ℕ → List ℕ
 columns_read s n l = tab (on_witness_with by_columns s n l) (witness_length n)
 
-abbrev pub ReadsByColumns : (s selectors labels witness publics challenges : List ℕ) (r : SheetAnswer) (selectors' labels' witness' publics' challenges' : List ℕ) → Type 0
+abbrev pub ReadsByColumns : (s selectors labels witness publics challenges : List ℕ) (r : Outcome Sheet) (selectors' labels' witness' publics' challenges' : List ℕ) → Type 0
 ReadsByColumns = ReadsWith by_columns
 
-abbrev pub DepositsByColumns : (s text : List ℕ) (r : Deposited) (text' : List ℕ) → Type 0
+abbrev pub DepositsByColumns : (s text : List ℕ) (r : Outcome ℕ) (text' : List ℕ) → Type 0
 DepositsByColumns = DepositsWith by_columns
 
-abbrev pub JoinsByColumns : (one two joined : List ℕ) (r : Joined) (joined' : List ℕ) → Type 0
+abbrev pub JoinsByColumns : (one two joined : List ℕ) (r : Outcome ℕ) (joined' : List ℕ) → Type 0
 JoinsByColumns = JoinsWith by_columns
 
 -- THE COMPARISON

@@ -11,8 +11,7 @@
 -- Assumes nothing.
 use Rattle.std.specs.Prelude.{◌≡◌, cond, not, List, [], ◌∷◌, ℕ, ◌*◌, length, get_or}
 use Rattle.algebra.specs.Lists.{tab}
-use Rattle.field.specs.declared.Answer.{Answer}
-use Rattle.field.specs.Reasons.{Reason, answer_of, is_accepted, bad_lengths}
+use Rattle.field.specs.Reasons.{Answer, Reason, answer_of, is_accepted, bad_lengths}
 use Rattle.circuit.specs.Circuit.{lent_witness, laid_witness}
 use Rattle.circuit.specs.Buffers.{witness_length}
 use Rattle.circuit.specs.Promises.{any_rows}

@@ -12,7 +12,7 @@
 -- length tells `check_point` which.
 -- A call's answer r is any that keeps the call's promise: ChecksRows or PointChecks. `AtMost K P` says that at most K things satisfy P.
 -- Assumes nothing.
-use Rattle.std.specs.Prelude.{◌≡◌, refl, Bool, true, false, cond, List, [], ◌∷◌, ℕ, ◌+◌, ◌*◌, ◌-◌, ◌<◌, ◌≤◌, length}
+use Rattle.std.specs.Prelude.{◌≡◌, refl, Bool, true, false, cond, List, [], ◌∷◌, ℕ, ◌+◌, ◌*◌, ◌-◌, ◌<◌, ◌≤◌, length, Some, None}
 use Rattle.std.proofs.Common.{sym, ◌∙◌, mod-lt, arith, length-append}
 use Rattle.std.proofs.Math.Option.{some}
 use Rattle.algebra.specs.Lists.{AtMost}
@@ -22,8 +22,7 @@ use Rattle.algebra.specs.Tables.{get_or-tab, all_get_d}
 use Rattle.algebra.specs.Counting.{at_most_of}
 use Rattle.field.specs.Fields.{Admissible}
 use Rattle.field.specs.Primes.{field_prime}
-use Rattle.field.specs.Reasons.{answer_of, is_accepted}
-use Rattle.field.specs.declared.Answer.{Answer}
+use Rattle.field.specs.Reasons.{Answer, Outcome, answer_of, is_accepted}
 use Rattle.transform.specs.Transform.{value_at, evaluation}
 use Rattle.circuit.specs.Circuit.{Constraints, position, Satisfies, lent_constraints, lent_public, lent_witness, laid_witness}
 use Rattle.circuit.specs.Witness.{lent_laid, laid_elements, lent_below}
@@ -35,10 +34,10 @@ use Rattle.protocol.specs.Protocol.{RowVerdict, pass, fails, row_verdict, z_rows
 use Rattle.protocol.proofs.SameValues.{verdict_ext}
 use Rattle.protocol.specs.Demand3.{witness_of, PassingPair, HoldingAlpha, AcceptedZeta, Demand3}
 use Rattle.protocol.proofs.Demand3.{demand_3}
-use Rattle.rowcheck.specs.declared.RowAnswer.{RowAnswer}
-use Rattle.rowcheck.specs.declared.Verdict.TheVariants.{None, Pass}
+use Rattle.rowcheck.specs.declared.Verdict.{Verdict}
+use Rattle.rowcheck.specs.declared.Verdict.TheVariants.{Pass}
 use Rattle.rowcheck.specs.Promises.{verdict_of, lent_z, ChecksRows}
-use Rattle.pointcheck.specs.declared.PointAnswer.{PointAnswer}
+use Rattle.pointcheck.specs.declared.Judged.{Judged}
 use Rattle.pointcheck.specs.declared.Judged.TheVariants as judged
 use Rattle.pointcheck.specs.Promises.{PointChecks}
 use Rattle.pointcheck.specs.Verdicts.{accept_of, answer_accept}
@@ -53,18 +52,18 @@ module _ (e p n l : ℕ) (selectors labels publics : List ℕ) (wire : ℕ → L
     pub gamma_element : pair.1 < p
     pub z : List ℕ
     pub z_elements : Elements p (z_length e n) z
-    pub r : RowAnswer
+    pub r : Outcome Verdict
     pub checks : ChecksRows p n l selectors labels (laid_witness n (witness_of p n wire)) publics (evaluation p n z) (pair.0 ∷ pair.1 ∷ []) r
-    pub passes : r.verdict ≡ Pass
+    pub passes : r.value ≡ Some Pass
 
   -- `check_point`, lent the prepared circuit and the transcript of these wires, z and t, answers Accept
   pub record PointAccepts (z t : List ℕ) (pair : ℕ × ℕ) (alpha zeta : ℕ) : Type 0 where
     pub zeta_element : zeta < p
     pub scratch : List ℕ
     pub scratch' : List ℕ
-    pub r : PointAnswer
+    pub r : Outcome Judged
     pub checks : PointChecks p n l publics (prepared p n (lent_constraints n selectors labels)) (transcript wire z t) (pair.0 ∷ pair.1 ∷ alpha ∷ zeta ∷ []) scratch r scratch'
-    pub accepts : r.verdict ≡ judged.Accept
+    pub accepts : r.value ≡ Some judged.Accept
 
 -- the lent circuit and public inputs
 pub record AnswersCounted (e p n l : ℕ) (selectors labels publics : List ℕ) : Type 0 where
@@ -92,7 +91,7 @@ pub record AnswersCounted (e p n l : ℕ) (selectors labels publics : List ℕ) 
       → Satisfies p n (lent_constraints n selectors labels) (lent_public publics) (lent_witness n witness)
       → (beta gamma : ℕ) → beta < p → gamma < p → zero_factor p n (lent_constraints n selectors labels) (lent_witness n witness) beta gamma ≡ n
       → (z : List ℕ) × (z_rows p n (lent_constraints n selectors labels) (lent_witness n witness) beta gamma ≡ some z)
-      × ((r : RowAnswer) → ChecksRows p n l selectors labels witness publics z (beta ∷ gamma ∷ []) r → r.verdict ≡ Pass)
+      × ((r : Outcome Verdict) → ChecksRows p n l selectors labels witness publics z (beta ∷ gamma ∷ []) r → r.value ≡ Some Pass)
   -- the same witness, and any numbers b that blind it: there is a transcript that the prover lays, and the point check, lent it, answers Accept,
   -- for every alpha and zeta
   pub honest_point : (witness : List ℕ)
@@ -100,14 +99,14 @@ pub record AnswersCounted (e p n l : ℕ) (selectors labels publics : List ℕ) 
       → (beta gamma : ℕ) → beta < p → gamma < p → zero_factor p n (lent_constraints n selectors labels) (lent_witness n witness) beta gamma ≡ n
       → (b : List ℕ) (alpha : ℕ) → alpha < p
       → (T : List ℕ) × (proved e p n (lent_constraints n selectors labels) (lent_public publics) (lent_witness n witness) b beta gamma alpha ≡ some T)
-      × ((zeta : ℕ) → zeta < p → (scratch scratch' : List ℕ) → length scratch ≡ work_length e n → (r : PointAnswer)
+      × ((zeta : ℕ) → zeta < p → (scratch scratch' : List ℕ) → length scratch ≡ work_length e n → (r : Outcome Judged)
       → PointChecks p n l publics (prepared p n (lent_constraints n selectors labels)) T (beta ∷ gamma ∷ alpha ∷ zeta ∷ []) scratch r scratch'
-      → r.verdict ≡ judged.Accept)
+      → r.value ≡ Some judged.Accept)
 
 -- THE ANSWERS
 
 -- an answer that is a verdict of pass, and back
-pass_of : (b : Bool) (v : RowVerdict) → cond b (verdict_of v) None ≡ Pass → v ≡ pass
+pass_of : (b : Bool) (v : RowVerdict) → cond b (Some (verdict_of v)) None ≡ Some Pass → v ≡ pass
 pass_of true pass h = refl
 pass_of true (fails id i) h = cc
 pass_of false v h = cc
@@ -115,7 +114,7 @@ pass_of false v h = cc
 abbrev accepted : Answer
 accepted = record { number = 0; detail = 0 }
 
-answer_pass : (a : Answer) (v : RowVerdict) → a ≡ accepted → v ≡ pass → cond (is_accepted a) (verdict_of v) None ≡ Pass
+answer_pass : (a : Answer) (v : RowVerdict) → a ≡ accepted → v ≡ pass → cond (is_accepted a) (Some (verdict_of v)) None ≡ Some Pass
 answer_pass a v h k = rw (h, k)
 
 lent_values : (p n : ℕ) (z : List ℕ) (i : ℕ) → i < n → lent_z (evaluation p n z) i ≡ value_at p n z i
@@ -186,7 +185,7 @@ module _ (e p n l : ℕ) (selectors labels publics : List ℕ) where
           gamma_element = h.gamma_element;
           z = h.z;
           z_elements = h.z_elements;
-          r = record { answer = answer; verdict = cond (is_accepted answer) (verdict_of verdict) None };
+          r = record { answer = answer; value = cond (is_accepted answer) (Some (verdict_of verdict)) None };
           checks = record { answer = refl; verdict = refl };
           passes =
               answer_pass answer verdict
@@ -211,7 +210,7 @@ module _ (e p n : ℕ) (he : e ≤ 1) (A : Admissible p n) (l : ℕ) (selectors 
       → Satisfies p n (lent_constraints n selectors labels) (lent_public publics) (lent_witness n witness)
       → (beta gamma : ℕ) → beta < p → gamma < p → zero_factor p n (lent_constraints n selectors labels) (lent_witness n witness) beta gamma ≡ n
       → (z : List ℕ) × (z_rows p n (lent_constraints n selectors labels) (lent_witness n witness) beta gamma ≡ some z)
-      × ((r : RowAnswer) → ChecksRows p n l selectors labels witness publics z (beta ∷ gamma ∷ []) r → r.verdict ≡ Pass)
+      × ((r : Outcome Verdict) → ChecksRows p n l selectors labels witness publics z (beta ∷ gamma ∷ []) r → r.value ≡ Some Pass)
   honest_rows witness elements sat beta gamma hb hg nonzero =
       let K = demand.completeness (lent_public publics) (lent_witness n witness) sat beta gamma nonzero [] in
       let drawn : Elements p 2 (beta ∷ gamma ∷ []) = record { long = refl; below = (hb, (hg, tt)) } in (
@@ -227,9 +226,9 @@ module _ (e p n : ℕ) (he : e ≤ 1) (A : Admissible p n) (l : ℕ) (selectors 
       → (beta gamma : ℕ) → beta < p → gamma < p → zero_factor p n (lent_constraints n selectors labels) (lent_witness n witness) beta gamma ≡ n
       → (b : List ℕ) (alpha : ℕ) → alpha < p
       → (T : List ℕ) × (proved e p n (lent_constraints n selectors labels) (lent_public publics) (lent_witness n witness) b beta gamma alpha ≡ some T)
-      × ((zeta : ℕ) → zeta < p → (scratch scratch' : List ℕ) → length scratch ≡ work_length e n → (r : PointAnswer)
+      × ((zeta : ℕ) → zeta < p → (scratch scratch' : List ℕ) → length scratch ≡ work_length e n → (r : Outcome Judged)
       → PointChecks p n l publics (prepared p n (lent_constraints n selectors labels)) T (beta ∷ gamma ∷ alpha ∷ zeta ∷ []) scratch r scratch'
-      → r.verdict ≡ judged.Accept)
+      → r.value ≡ Some judged.Accept)
   honest_point witness sat beta gamma hb hg nonzero b alpha ha =
       let K = demand.completeness (lent_public publics) (lent_witness n witness) sat beta gamma nonzero b in
       let long = demand.proved_long (lent_public publics) (lent_witness n witness) b beta gamma alpha _ (K.laid alpha) in (

@@ -20,9 +20,8 @@ use Rattle.algebra.specs.Polynomial.{Elements}
 use Rattle.algebra.specs.Search.{first_le}
 use Rattle.algebra.specs.Tables.{all_append, all_left, all_right}
 use Rattle.field.specs.Fields.{is_field, is_current, Admissible}
-use Rattle.field.specs.declared.Answer.{Answer}
 use Rattle.field.specs.Lent.{Lent}
-use Rattle.field.specs.Reasons.{Reason, answer_of}
+use Rattle.field.specs.Reasons.{Answer, Reason, answer_of}
 use Rattle.field.specs.ReasonLaws.{none_applies, taken, both_none, both_taken, refused_later, current_known, current_answer}
 use Rattle.circuit.specs.Circuit.{Constraints, lent_constraints, lent_public, lent_witness, Satisfies}
 use Rattle.circuit.specs.Buffers.{blinder_count, witness_length, transcript_length, work_length}

@@ -5,12 +5,12 @@
 #![tactic(auto)]
 
 ghost use Rattle.std.specs.Prelude.{◌≡◌, [], ◌≤◌, get_or};
-ghost use Rattle.field.specs.Reasons.{answer_of};
+ghost use Rattle.field.specs.Reasons.{told, answer_of};
 ghost use Rattle.circuit.specs.Circuit.{lent_constraints, lent_public, lent_witness};
 ghost use Rattle.protocol.specs.Protocol.{witness_reasons, prove_reasons};
 ghost use Rattle.witnesses.specs.Buffers.{Checked};
 
-use field::Answer;
+use field::{Cause, Refusal};
 
 mod reasons;
 mod scans;
@@ -24,25 +24,17 @@ fn of_witness(
     witness: &[u32],
     publics: &[u32],
     challenges: &[u32],
-) -> Answer
+) -> Result<(), Refusal>
     requires { Checked p n selectors.now labels.now witness.now challenges.now }
-    ensures { result ≡ answer_of (witness_reasons p n (lent_constraints n selectors.now labels.now) (lent_public publics.now) (lent_witness n witness.now) (get_or challenges.now 0 0) (get_or challenges.now 1 0)) }
+    ensures { told result ≡ answer_of (witness_reasons p n (lent_constraints n selectors.now labels.now) (lent_public publics.now) (lent_witness n witness.now) (get_or challenges.now 0 0) (get_or challenges.now 1 0)) }
 {
     let m = n as usize;
     let row = scans::broken_gate(p, m, selectors, witness, publics);
-    let gates = field::decide_at(9, row, m);
-    let number = gates.number;
-    if number != 0 {
-        return gates;
-    }
+    field::decide_at(Cause::Gate, row, m)?;
     let place = scans::broken_copy(m, labels, witness);
-    let copies = field::decide_at(10, place, 3 * m);
-    let number = copies.number;
-    if number != 0 {
-        return copies;
-    }
+    field::decide_at(Cause::Copy, place, 3 * m)?;
     let at = scans::zero_row(p, n, labels, witness, challenges[0], challenges[1]);
-    field::decide_at(11, at, m)
+    field::decide_at(Cause::Factor, at, m)
 }
 
 // Why a call of the prover is turned down, if it is: of `prove_blinded` where e is 1, and else of `prove`, which is lent no blinders. The transcript and the scratch are looked at for their length only.
@@ -59,21 +51,13 @@ pub fn decide(
     challenges: &[u32],
     blinders: &[u32],
     scratch: &[u32],
-) -> Answer
+) -> Result<(), Refusal>
     requires { (e ≤ 1) × (e ≡ 0 → blinders.now ≡ []) }
-    ensures { result ≡ answer_of (prove_reasons e p n l selectors.now labels.now witness.now publics.now transcript.now challenges.now blinders.now scratch.now) }
+    ensures { told result ≡ answer_of (prove_reasons e p n l selectors.now labels.now witness.now publics.now transcript.now challenges.now blinders.now scratch.now) }
 {
-    let prime = field::decide_prime(p);
-    let number = prime.number;
-    if number != 0 {
-        return prime;
-    }
-    let answer = reasons::of_buffers(
+    field::decide_prime(p)?;
+    reasons::of_buffers(
         e, p, n, l, selectors, labels, witness, publics, transcript, challenges, blinders, scratch,
-    );
-    let number = answer.number;
-    if number != 0 {
-        return answer;
-    }
+    )?;
     of_witness(p, n, selectors, labels, witness, publics, challenges)
 }

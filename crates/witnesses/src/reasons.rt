@@ -1,9 +1,9 @@
 // The reasons of p, n, l and the buffers: document 01's 2 to 8, and document 02's 14. Nothing is written.
 ghost use Rattle.std.specs.Prelude.{◌≡◌, [], ◌≤◌};
-ghost use Rattle.field.specs.Reasons.{answer_of};
+ghost use Rattle.field.specs.Reasons.{told, answer_of};
 ghost use Rattle.circuit.specs.Reasons.{prove_buffer_reasons};
 
-use field::Answer;
+use field::Refusal;
 
 // The reasons in order: p, n, l and the lengths; then the numbers, the labels and the public rows in the buffers. The transcript and the scratch are looked at for their length only.
 pub fn of_buffers(
@@ -19,9 +19,9 @@ pub fn of_buffers(
     challenges: &[u32],
     blinders: &[u32],
     scratch: &[u32],
-) -> Answer
+) -> Result<(), Refusal>
     requires { (e ≤ 1) × (e ≡ 0 → blinders.now ≡ []) }
-    ensures { result ≡ answer_of (prove_buffer_reasons e p n l selectors.now labels.now witness.now publics.now transcript.now challenges.now blinders.now scratch.now) }
+    ensures { told result ≡ answer_of (prove_buffer_reasons e p n l selectors.now labels.now witness.now publics.now transcript.now challenges.now blinders.now scratch.now) }
 {
     let long = [
         selectors.len(),

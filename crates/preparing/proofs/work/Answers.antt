@@ -51,5 +51,5 @@ returns c =
       out_after = c.interpolate_parts.ensures
           ∙ ap (λ l. interpolated c.args.p c.args.n l prepared_count) c.fill_rows.ensures
           ∙ rows-prepared _ _ c.args.selectors.now c.args.labels.now c.requires.elements.long;
-      scratch_after = c.clear.ensures ∙ ap (λ (m : ℕ). replicate m 0) (length_front c.args.scratch.now c.interpolate_parts.new.work c.args.n c.interpolate_parts.auto.work ∙ c.requires.scratch_length_lem);
+      scratch_after = c.fill.ensures.after (λ _ h. h) ∙ ap (λ (m : ℕ). replicate m 0) (length_front c.args.scratch.now c.interpolate_parts.new.work c.args.n c.interpolate_parts.auto.work ∙ c.requires.scratch_length_lem);
     }

@@ -1,10 +1,5 @@
--- `prover::lay_t` meets its contract: F in the scratch, and its quotient behind a, b, c and z. Assumes nothing.
-use mathlib.Core.Path.{◌≡◌, sym, ap, ap₂, ◌∙◌}
-use mathlib.Core.List.{List, ◌++◌}
-use Prim.Native.Nat.{ℕ, ◌+◌, ◌-◌, ◌≤◌}
-use native.Mathlib.Omega.{arith}
-use lib.ListN.{length, get_or, take, drop}
-use lib.Seq.{length-take-le}
+-- F is in the scratch, and its quotient goes behind a, b, c and z.
+use Rattle.std.proofs.Common.{◌≡◌, ◌+◌, ◌-◌, ◌≤◌, List, ◌++◌, ℕ, length, get_or, take, drop, sym, ap, ap₂, ◌∙◌, arith, length-take-le}
 use Rattle.algebra.specs.Ends.{rest_put}
 use Rattle.algebra.specs.Polynomial.{quotient_vanishing, reduced}
 use Rattle.field.specs.Primes.{rows-power, field_prime}
@@ -14,47 +9,18 @@ use Rattle.protocol.specs.Protocol.{quotient, prepared}
 use Rattle.protocol.specs.Quotients.{quotient_sees}
 use Rattle.quotients.specs.Lengths.{length-point_f}
 use Rattle.prover.specs.Buffers.{lent_f}
-use Rattle.prover.proofs.Fits.{filling_fits, laid_fits, rest_long}
+use Rattle.prover.proofs.Fits.{filling_fits, rest_long}
 use Rattle.prover.proofs.lay_t.Goals as goal
-use Rattle.prover.proofs.lay_t.Goals.{After-f_length-end, After-fill_f}
-
--- F is in the scratch, and a, b, c and z in the transcript
-scratch-fit : (c : After-fill_f) → c.f_length-end.result ≤ length c.fill_f.new.scratch
-scratch-fit c =
-    omega (arith, c.fill_f.auto.scratch, c.f_length-end.ensures, filling_fits c.requires.0)
-
-laid-fit : (c : After-f_length-end) → c.t_start-at.result ≤ length c.args.transcript.now
-laid-fit c =
-    omega (arith, c.t_start-at.ensures, laid_fits c.requires.0 c.args.transcript.now c.requires.1)
-
--- the part behind a, b, c and z has the length of t
-rest : (c : After-f_length-end) → length (take (length c.args.transcript.now - c.t_start-at.result) (drop c.t_start-at.result c.args.transcript.now)) ≡ quotient_length c.args.e c.args.n
-rest c =
-    let T = c.args.transcript.now in
-    ap (λ (i : ℕ). length (take (length T - i) (drop i T))) c.t_start-at.ensures ∙ rest_long c.requires.0 T c.requires.1
-
-pub slice_bounds-fill_f-end : goal.slice_bounds-fill_f-end
-slice_bounds-fill_f-end c = laid-fit c
-
-pub slice_bounds-fill_f-end-2 : goal.slice_bounds-fill_f-end-2
-slice_bounds-fill_f-end-2 c = sym (length-take-le _ _ (laid-fit c))
-
-pub fill_f-requires : goal.fill_f-requires
-fill_f-requires c =
-    (c.requires.0, length-take-le _ _ (laid-fit (goal.at.fill_f-requires c).After-f_length-end) ∙ c.t_start-at.ensures)
-
-pub slice_bounds-divide-end : goal.slice_bounds-divide-end
-slice_bounds-divide-end c = scratch-fit (goal.at.slice_bounds-divide-end c).After-fill_f
-
-pub slice_bounds-divide-end-2 : goal.slice_bounds-divide-end-2
-slice_bounds-divide-end-2 c = sym (length-take-le _ _ (scratch-fit (goal.at.slice_bounds-divide-end-2 c).After-fill_f))
 
 pub divide-requires : goal.divide-requires
 divide-requires c =
-    let A = c.requires.0.admissible in (
-      omega (arith, (field_prime _ A.one_of_three).two),
-      omega (arith, (rows-power _ _ A.rows).least),
-      length-take-le _ _ (scratch-fit (goal.at.divide-requires c).After-fill_f) ∙ c.f_length-end.ensures ∙ ap (λ (m : ℕ). c.args.n + m) (sym (rest (goal.at.divide-requires c).After-f_length-end)),
+    let R = c.requires.0 in
+    let T = c.args.transcript.now in
+    let fits : c.f_length-end.result ≤ length c.fill_f.new.scratch = omega (arith, c.fill_f.auto.scratch, c.f_length-end.ensures, filling_fits R) in
+    let rest = ap (λ (i : ℕ). length (take (length T - i) (drop i T))) c.t_start-at.ensures ∙ rest_long R T c.requires.1 in (
+      omega (arith, (field_prime _ R.admissible.one_of_three).two),
+      omega (arith, (rows-power _ _ R.admissible.rows).least),
+      length-take-le _ _ fits ∙ c.f_length-end.ensures ∙ ap (λ (m : ℕ). c.args.n + m) (sym rest),
     )
 
 pub returns : goal.returns
@@ -66,10 +32,13 @@ returns c =
     let f = take c.f_length-end.result c.fill_f.new.scratch in
     let least = (rows-power _ _ c.requires.0.admissible.rows).least in
     let front : take c.t_start-at.result T ≡ take (t_start a.e a.n) T = ap (λ (i : ℕ). take i T) c.t_start-at.ensures in
+    let rest : length (take (length T - c.t_start-at.result) (drop c.t_start-at.result T)) ≡ quotient_length a.e a.n =
+    ap (λ (i : ℕ). length (take (length T - i) (drop i T))) c.t_start-at.ensures ∙ rest_long c.requires.0 T c.requires.1
+    in
     rest_put c.t_start-at.result T c.divide.new.t
     ∙ ap₂ (λ (i l : List ℕ). i ++ l) front
     (c.divide.ensures
-    ∙ ap (λ (m : ℕ). reduced a.p m (quotient_vanishing a.n m f)) (rest (goal.at.returns c).After-f_length-end)
+    ∙ ap (λ (m : ℕ). reduced a.p m (quotient_vanishing a.n m f)) rest
     ∙ quotient_sees a.e a.p a.n f _ (omega (arith, least))
     (length-point_f a.e a.p a.n (prepared a.p a.n (lent_constraints a.n a.selectors.now a.labels.now)) (lent_public a.publics.now) (take (t_start a.e a.n) T)
     (get_or d 0 0)

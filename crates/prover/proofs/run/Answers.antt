@@ -1,6 +1,5 @@
 -- `prover::run` meets its contract: where no reason applies, the numbers are checked, and the work is done. Assumes nothing.
-use mathlib.Core.Path.{ap, sym, ◌∙◌}
-use native.Mathlib.Omega.{arith}
+use Rattle.field.specs.ReasonLaws.{ok_number}
 use Rattle.witnesses.specs.Accepted.{accepted_of}
 use Rattle.prover.specs.Buffers.{checked_of}
 use Rattle.prover.proofs.run.Goals as goal
@@ -12,4 +11,4 @@ work-requires c =
     (accepted_of a.e a.p a.n a.l a.selectors.now a.labels.now a.witness.now a.publics.now a.transcript.now a.challenges.now a.blinders.now a.scratch.now
     c.requires.0
     c.requires.1
-    (sym (ap (λ r. r.number) c.decide-answer.ensures) ∙ omega arith))
+    (ok_number c.in_ok-decide.was c.decide.ensures))

@@ -21,7 +21,7 @@ add_public_gate-requires c =
         few = (rows-power _ _ A.rows).small;
         prepared_length_lem = s.prepared_length_lem;
         laid-length = s.laid-length;
-        room = omega (arith, c.clear.auto.out, s.out_length);
+        room = omega (arith, s.out_length);
       },
     )
 
@@ -29,5 +29,5 @@ pub returns : goal.returns
 unfolding poly_f
 returns c =
     from_zeros (f_length c.args.e c.args.n)
-    (c.clear.ensures ∙ ap (λ (m : ℕ). replicate m 0) c.requires.out_length)
+    (c.fill.ensures.after (λ y h. h) ∙ ap (λ (m : ℕ). replicate m 0) c.requires.out_length)
     (then (then c.add_public_gate.ensures record { sum = c.add_step.ensures }) c.add_start.ensures)

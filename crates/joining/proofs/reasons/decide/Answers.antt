@@ -1,58 +1,62 @@
--- `joining::reasons::decide` meets its contract: the reasons of the first sheet, of the second, of the pair. Assumes nothing.
-use mathlib.Core.Path.{◌≡◌, sym, ap, ◌∙◌}
-use Prim.Native.Nat.{ℕ}
-use native.Mathlib.Omega.{arith}
-use Rattle.field.specs.declared.Answer.{Answer}
-use Rattle.field.specs.Reasons.{answer_of}
-use Rattle.sheet.specs.Deciding.{found}
-use Rattle.joining.specs.Joining.{pair_reasons}
+-- The reasons of the first sheet, of the second, of the pair.
+use Rattle.std.proofs.Common.{◌≡◌, refl, sym, ap, ap₂, ◌∙◌, arith}
+use Rattle.std.proofs.lemmas.Result.{err_from_is_err_and}
+use Rattle.field.specs.Reasons.{told, answer_of}
+use Rattle.field.specs.ReasonLaws.{told_refused}
+use Rattle.sheet.specs.declared.Sheet.{Sheet}
+use Rattle.sheet.specs.Sheet.{sheet_of}
+use Rattle.joining.specs.Joining.{pair_reasons, join_reasons}
 use Rattle.joining.specs.Deciding.{first_refused, rows_few, second_refused, pair_decided}
 use Rattle.joining.proofs.reasons.decide.Goals as goal
+use Rattle.joining.proofs.reasons.decide.Goals.{In_ok-a, After-decide_pair}
 
-same-pair : (p n q k p' n' q' k' : ℕ) → p ≡ p' → n ≡ n' → q ≡ q' → k ≡ k' → answer_of (pair_reasons p n q k) ≡ answer_of (pair_reasons p' n' q' k')
-same-pair p n q k p' n' q' k' e f g h = rw (e, f, g, h)
+-- the two sheets that were found
+one : (c : In_ok-a) → c.in_ok-a.a ≡ sheet_of c.args.one.now
+one c = cc c.in_ok-a.ensures.value
 
-pub returns-then-number-ne0 : goal.returns-then-number-ne0
-returns-then-number-ne0 c =
-    let a = c.args in
-    record {
-      answer = c.turned_down.ensures ∙ first_refused a.one.now a.two.now a.room _ c.decide_new-a.ensures.answer c.if-number-ne0.true;
-      known = λ z. absurd (c.if-number-ne0.true (ap (λ (b : Answer). b.number) (sym c.turned_down.ensures) ∙ z));
-    }
+two : (c : After-decide_pair) → c.in_ok-b.b ≡ sheet_of c.args.two.now
+two c = cc c.in_ok-b.ensures.value
 
-pub returns-then-number-ne0-2 : goal.returns-then-number-ne0-2
-returns-then-number-ne0-2 c =
-    let a = c.args in
-    record {
-      answer =
-          c.turned_down-then-number-ne0-2.ensures
-          ∙ second_refused a.one.now a.two.now a.room _ c.decide_new-a.ensures.answer c.if-number-ne0.false _ c.decide_new-b.ensures.answer c.if-number-ne0-2.true;
-      known = λ z. absurd (c.if-number-ne0-2.true (ap (λ (b : Answer). b.number) (sym c.turned_down-then-number-ne0-2.ensures) ∙ z));
-    }
+-- the reasons of the pair are the last
+all : (c : After-decide_pair) → told c.decide_pair.result ≡ answer_of (join_reasons c.args.one.now c.args.two.now c.args.room)
+all c =
+    let e : c.in_ok-a.a ≡ sheet_of c.args.one.now = cc c.in_ok-a.ensures.value in
+    pair_decided c.args.one.now c.args.two.now c.args.room _ c.in_ok-a.ensures.answer refl _ _ c.in_ok-b.ensures.answer refl
+    (c.decide_pair.ensures ∙ ap₂ (λ (f g : Sheet). answer_of (pair_reasons f.p f.n g.p g.n)) e (two c))
 
-pub decide_pair-answer-requires : goal.decide_pair-answer-requires
-decide_pair-answer-requires c =
-    let a = c.args in
-    let zero = c.if-number-ne0.false in
-    omega (arith, (found c.decide_new-a.ensures zero).1, rows_few a.one.now a.two.now a.room _ c.decide_new-a.ensures.answer zero)
+pub returns-in_err-a : goal.returns-in_err-a
+returns-in_err-a c =
+    let p = err_from_is_err_and c.from_residual.result c.from_residual.ensures.1 in
+    let e = told_refused c.in_err-a.field-0.0 in
+    rw (p.1, p.2) (record { answer = first_refused c.args.one.now c.args.two.now c.args.room _ c.in_err-a.ensures.answer e; known = e })
+
+pub returns-in_err-b : goal.returns-in_err-b
+returns-in_err-b c =
+    let p = err_from_is_err_and c.from_residual-in_err-b.result c.from_residual-in_err-b.ensures.1 in
+    let e = told_refused c.in_err-b.field-0.0 in
+    rw (p.1, p.2) (record { answer = second_refused c.args.one.now c.args.two.now c.args.room _ c.in_ok-a.ensures.answer refl _ c.in_err-b.ensures.answer e; known = e })
+
+pub decide_pair-requires : goal.decide_pair-requires
+decide_pair-requires c =
+    omega (arith, ap (λ (f : Sheet). f.n) (one (goal.at.decide_pair-requires c).In_ok-a), rows_few c.args.one.now c.args.two.now c.args.room _ c.in_ok-a.ensures.answer refl)
+
+pub returns-in_err-decide_pair : goal.returns-in_err-decide_pair
+returns-in_err-decide_pair c =
+    let p = err_from_is_err_and c.from_residual-in_err-decide_pair.result c.from_residual-in_err-decide_pair.ensures.1 in
+    let is = sym (ap told c.in_err-decide_pair.was) ∙ all (goal.at.returns-in_err-decide_pair c).After-decide_pair in
+    rw (p.1, p.2) (record { answer = is; known = told_refused c.in_err-decide_pair.field-0.0 })
 
 pub returns : goal.returns
 returns c =
-    let a = c.args in
-    let zero = c.if-number-ne0.false in
-    let none = c.if-number-ne0-2.false in
-    let one = found c.decide_new-a.ensures zero in
-    let two = found c.decide_new-b.ensures none in
+    let e = one (goal.at.returns c).In_ok-a in
     record {
-      answer =
-          pair_decided a.one.now a.two.now a.room _ c.decide_new-a.ensures.answer zero _ _ c.decide_new-b.ensures.answer none
-          (c.decide_pair-answer.ensures ∙ same-pair _ _ _ _ _ _ _ _ one.0 one.1 two.0 two.1);
-      known = λ u. record {
-        p_is = one.0;
-        n_is = one.1;
-        l_is = one.2;
-        m_is = two.2;
-        one_held = (c.decide_new-a.ensures.tabled zero).held;
-        two_held = (c.decide_new-b.ensures.tabled none).held;
+      answer = sym (ap told c.in_ok-decide_pair.was) ∙ all (goal.at.returns c).After-decide_pair;
+      known = record {
+        p_is = ap (λ (f : Sheet). f.p) e;
+        n_is = ap (λ (f : Sheet). f.n) e;
+        l_is = ap (λ (f : Sheet). f.l) e;
+        m_is = ap (λ (f : Sheet). f.l) (two (goal.at.returns c).After-decide_pair);
+        one_held = c.in_ok-a.ensures.held refl;
+        two_held = c.in_ok-b.ensures.held refl;
       };
     }

@@ -1,0 +1,7 @@
+-- Each word is written once, in order.
+use Rattle.std.proofs.Common.{arith}
+use Rattle.algebra.specs.Tables.{filled}
+use Rattle.transform.proofs.slices.backwards.Goals as goal
+
+pub returns : goal.returns
+returns c = filled _ (omega arith) (omega arith) c.loop-i.invariant
