@@ -1,5 +1,6 @@
 // How many numbers the lent buffers have for n rows, and where the polynomials start in them. The number e is 1 where the transcript is blinded, else 0. (The
 // scratch of the transforms and of `prepare` has its length in `transform`.)
+// e stays a number: the lengths are counted with it, here and in the definitions (`wire_length e n`). Columns and polynomials stay numbers: document 01 and C have them so.
 ghost use Rattle.std.specs.Prelude.{◌≡◌, ◌<◌, ◌≤◌, length};
 ghost use Rattle.circuit.specs.Buffers.{prepared_count, selectors_length, labels_length, witness_length, prepared_length, wire_length, z_length, quotient_length, f_length, transcript_length, opening_length, work_length, blinded_by, prepared_start, wire_start, z_start, t_start};
 

@@ -1,9 +1,10 @@
 // The public inputs as row values, and their polynomial.
-ghost use Rattle.std.specs.Prelude.{◌≡◌, length};
-ghost use Rattle.algebra.specs.Lists.{tab};
+ghost use Rattle.std.specs.Prelude.{◌≡◌, ◌<◌, length};
+ghost use Rattle.algebra.specs.Lists.{tab, All};
 ghost use Rattle.transform.specs.Transform.{interpolation};
 ghost use Rattle.circuit.specs.Circuit.{lent_public};
-ghost use Rattle.circuit.specs.Publics.{LentPublics};
+
+use field::rows::Domain;
 
 // The public input of a row; 0 past their end.
 pub fn public_of(publics: &[u32], i: usize) -> u32
@@ -21,14 +22,12 @@ fn fill_publics(publics: &[u32], out: &mut [u32])
     }
 }
 
-// Their polynomial, of n rows.
-pub fn public_polynomial(p: u32, n: u32, publics: &[u32], xs: &mut [u32], spare: &mut [u32])
-    requires lent_publics { LentPublics p n publics.now }
-    requires xs_len { (length xs.old ≡ n) × (length spare.old ≡ n) }
-    ensures { xs.new ≡ interpolation p n (lent_public publics.now) }
+// Their polynomial, of the domain's rows.
+pub fn public_polynomial(domain: &Domain, publics: &[u32], xs: &mut [u32], spare: &mut [u32])
+    requires elements { All (λ x. x < domain.now.p) publics.now }
+    requires xs_len { (length xs.old ≡ domain.now.n) × (length spare.old ≡ domain.now.n) }
+    ensures { xs.new ≡ interpolation domain.now.p domain.now.n (lent_public publics.now) }
 {
-    let m = n as usize;
-    let powers = field::domain_points(p, n);
     fill_publics(publics, xs);
-    transform::interpolate_in_place(p, n, &powers[..m], xs, spare);
+    transform::interpolate_in_place(domain, xs, spare);
 }

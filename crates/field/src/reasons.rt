@@ -50,6 +50,7 @@ fn first_other(long: &[usize], due: &[usize]) -> usize
 }
 
 // The reason of the lengths, 6: a table of the lengths of a call's buffers, and one of those due, in the order in which the buffers are counted.
+// Stays with two tables: the definitions speak of the lengths and of those due apart (`bad_lengths`, `point_due` and the others).
 pub fn decide_lengths(long: &[usize], due: &[usize]) -> Result<(), Refusal>
     requires { (length long.now ≡ length due.now) × (length due.now ≤ 16) }
     ensures { told result ≡ answer_of (bad_lengths long.now due.now ∷ []) }

@@ -1,5 +1,6 @@
 // Arrays for a caller that lends parts of them on, by what they have room for at the greatest number of rows, 1,024. What they hold does not matter.
 // Those of polynomials have room for blinded ones too (document 02, request 9).
+// Stays with arrays of a fixed size, whose start is lent: a call takes no memory from a heap, which is a rule of the project.
 ghost use Rattle.std.specs.Prelude.{◌≡◌, length};
 
 pub const ROWS_ROOM: usize = 1024;

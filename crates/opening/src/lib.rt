@@ -132,6 +132,7 @@ pub fn open<'a>(
 
 // Accept if the mixture of the lent evaluations equals the lent opening polynomial × (X - point) in every coefficient, else reject; or why the
 // call is turned down.
+// Stays a call of its own beside `open`: C calls both.
 pub fn check_opening<'a>(
     p: u32,
     n: u32,

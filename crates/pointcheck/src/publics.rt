@@ -5,6 +5,8 @@ ghost use Rattle.transform.specs.Transform.{interpolation};
 ghost use Rattle.circuit.specs.Circuit.{lent_public};
 ghost use Rattle.circuit.specs.Publics.{LentPublics};
 
+use field::rows::Domain;
+
 // Its value at x. The scratch is written.
 #[tactic(auto, using(crate::proofs::Arithmetic::positive, crate::proofs::Arithmetic::small))]
 pub fn public_at(p: u32, n: u32, publics: &[u32], x: u32, scratch: &mut [u32]) -> u32
@@ -14,6 +16,6 @@ pub fn public_at(p: u32, n: u32, publics: &[u32], x: u32, scratch: &mut [u32]) -
 {
     let m = n as usize;
     let mut xs: [u32; field::ROWS_ROOM] = field::room();
-    circuit::public_polynomial(p, n, publics, &mut xs[..m], &mut scratch[..m]);
+    circuit::public_polynomial(&Domain::new(p, n), publics, &mut xs[..m], &mut scratch[..m]);
     polynomials::horner(p, &xs[..m], x)
 }

@@ -8,13 +8,13 @@ ghost use Rattle.algebra.specs.Polynomial.{Elements};
 ghost use Rattle.field.specs.Reasons.{told, answer_of};
 ghost use Rattle.transform.specs.Transform.{scratch_length};
 ghost use Rattle.circuit.specs.Circuit.{lent_constraints};
-ghost use Rattle.transform.specs.Points.{Points};
 ghost use Rattle.circuit.specs.Buffers.{selectors_length, labels_length, prepared_length};
 ghost use Rattle.circuit.specs.Reasons.{prepare_reasons};
 ghost use Rattle.protocol.specs.Protocol.{prepared};
 ghost use Rattle.preparing.specs.Promises.{Prepares, Checked, rows_of};
 
 use field::Refusal;
+use field::rows::Domain;
 
 // Why a call is turned down, if it is. Nothing is written.
 fn decide(
@@ -36,33 +36,32 @@ fn decide(
 }
 
 // The row values of the polynomials, end to end: the selectors, then the tags of where the permutation leads.
-fn fill_rows(p: u32, n: u32, powers: &[u32], selectors: &[u32], labels: &[u32], out: &mut [u32])
-    requires points { Points p n powers.now }
-    requires selectors_len { (length selectors.now ≡ selectors_length n) × Elements (3 * n) (labels_length n) labels.now × (length out.old ≡ prepared_length n) }
-    ensures { out.new ≡ rows_of p n selectors.now labels.now }
+fn fill_rows(domain: &Domain, selectors: &[u32], labels: &[u32], out: &mut [u32])
+    requires selectors_len { length selectors.now ≡ selectors_length domain.now.n }
+    requires labels { Elements (3 * domain.now.n) (labels_length domain.now.n) labels.now }
+    requires out_len { length out.old ≡ prepared_length domain.now.n }
+    ensures { out.new ≡ rows_of domain.now.p domain.now.n selectors.now labels.now }
 {
     let m = selectors.len();
     out[..m].copy_from_slice(selectors);
-    circuit::wired_tags(p, n, powers, labels, &mut out[m..]);
+    circuit::wired_tags(domain, labels, &mut out[m..]);
 }
 
 // The work on checked numbers: the row values, each run of n of them interpolated in place, and the scratch cleared.
-pub fn work(p: u32, n: u32, selectors: &[u32], labels: &[u32], out: &mut [u32], scratch: &mut [u32])
-    requires { Checked p n selectors.now labels.now out.old scratch.old }
-    ensures out_after { out.new ≡ prepared p n (lent_constraints n selectors.now labels.now) }
-    ensures scratch_after { scratch.new ≡ replicate (scratch_length n) 0 }
+pub fn work(
+    domain: &Domain,
+    selectors: &[u32],
+    labels: &[u32],
+    out: &mut [u32],
+    scratch: &mut [u32],
+)
+    requires { Checked domain.now.p domain.now.n selectors.now labels.now out.old scratch.old }
+    ensures out_after { out.new ≡ prepared domain.now.p domain.now.n (lent_constraints domain.now.n selectors.now labels.now) }
+    ensures scratch_after { scratch.new ≡ replicate (scratch_length domain.now.n) 0 }
 {
-    let m = n as usize;
-    let powers = field::domain_points(p, n);
-    fill_rows(p, n, &powers[..m], selectors, labels, out);
-    transform::interpolate_parts(
-        p,
-        n,
-        &powers[..m],
-        out,
-        &mut scratch[..m],
-        circuit::PREPARED_COUNT,
-    );
+    let m = domain.n as usize;
+    fill_rows(domain, selectors, labels, out);
+    transform::interpolate_parts(domain, out, &mut scratch[..m], circuit::PREPARED_COUNT);
     scratch.fill(0);
 }
 
@@ -80,6 +79,6 @@ pub fn prepare(
     ensures { Prepares p n l selectors.now labels.now written.old scratch.old (told result) written.new scratch.new }
 {
     decide(p, n, l, selectors, labels, written, scratch)?;
-    work(p, n, selectors, labels, written, scratch);
+    work(&Domain::new(p, n), selectors, labels, written, scratch);
     Ok(())
 }

@@ -1,7 +1,7 @@
 -- The parts that are lent fit into their buffers, and what the buffers are when they come back.
 --
 -- scratch_fits, filling_fits   the scratch of preparing, and F, fit into the scratch
--- prepared_fits, room_fits   the prepared circuit and the domain points fit into their arrays
+-- prepared_fits         the prepared circuit fits into its array
 -- rest_long             the words behind a, b, c and z are as many as t has
 -- transcript_of_lem     a, b, c and z with the quotient behind them are the prover's transcript
 --
@@ -15,6 +15,7 @@ use lib.ListN.{length, get_or, take, drop, length-take, length-drop, length-appe
 use lib.Seq.{take_at}
 use Rattle.algebra.specs.Polynomial.{coef}
 use Rattle.field.specs.Rooms.{rows_room}
+use Rattle.field.specs.Fields.{Admissible}
 use Rattle.field.specs.Primes.{rows-power}
 use Rattle.field.specs.Domain.{Domain}
 use Rattle.transform.specs.Transform.{interpolation, scratch_length}
@@ -33,16 +34,14 @@ module _ {e p n : ℕ} {selectors labels publics challenges scratch : List ℕ} 
   pub filling_fits : f_length e n ≤ length scratch
   filling_fits = omega (arith, R.scratch_long)
 
+module _ {p n : ℕ} (A : Admissible p n) where
   pub prepared_fits : (k : ℕ) (l : List ℕ) → k ≡ prepared_length n → prepared_length rows_room ≡ length l → k ≤ length l
-  prepared_fits k l due is = omega (arith, (rows-power p n R.admissible.rows).small)
+  prepared_fits k l due is = omega (arith, (rows-power p n A.rows).small)
 
-  pub room_fits : (l : List ℕ) → rows_room ≡ length l → n ≤ length l
-  room_fits l is = omega (arith, (rows-power p n R.admissible.rows).small)
-
-  pub rest_long : (laid : List ℕ) → length laid ≡ transcript_length e n
+  pub rest_long : (e : ℕ) (laid : List ℕ) → length laid ≡ transcript_length e n
       → length (take (length laid - t_start e n) (drop (t_start e n) laid)) ≡ quotient_length e n
-  rest_long laid is =
-      simp (length-take, length-drop) (omega (arith, (rows-power p n R.admissible.rows).least))
+  rest_long e laid is =
+      simp (length-take, length-drop) (omega (arith, (rows-power p n A.rows).least))
 
 module _ {p n : ℕ} (D : Domain p n) (e : ℕ) (selectors labels witness publics challenges blinders first rest last : List ℕ) where
   abbrev C : Constraints

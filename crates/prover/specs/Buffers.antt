@@ -1,9 +1,9 @@
 -- What the inner functions ask of their buffers, and F as they speak of it.
 --
 -- lent_f e      F of a lent circuit that is prepared, public inputs, and a, b, c, z as they are laid
--- Ready e       e is 0 or 1, p and n are admissible; selectors, labels, public inputs, challenges and scratch are lent rightly
+-- Ready e       e is 0 or 1; selectors, labels, public inputs, challenges and scratch are lent rightly
 -- Front e       the same of labels, witness, transcript and blinders; and no factor of any D(i) is zero
--- Checked e     what a public call has checked
+-- Checked e     what a public call has checked: p and n are admissible, and both of these
 -- checked_of    it has, where no reason applies
 -- laid-F        F of a, b, c, z laid end to end is F of these polynomials
 --
@@ -31,7 +31,6 @@ lent_f e p n selectors labels publics laid challenges =
 
 pub record Ready (e p n : ℕ) (selectors labels publics challenges scratch : List ℕ) : Type 0 where
   pub small : e ≤ 1
-  pub admissible : Admissible p n
   pub elements : Elements p (selectors_length n) selectors
   pub labelled : Elements (3 * n) (labels_length n) labels
   pub publics_below : All (λ (x : ℕ). x < p) publics
@@ -40,7 +39,6 @@ pub record Ready (e p n : ℕ) (selectors labels publics challenges scratch : Li
 
 pub record Front (e p n : ℕ) (labels witness transcript challenges blinders scratch : List ℕ) : Type 0 where
   pub blinding : Blinders e blinders
-  pub admissible : Admissible p n
   pub labelled : Elements (3 * n) (labels_length n) labels
   pub elements : Elements p (witness_length n) witness
   pub transcript_long : length transcript ≡ transcript_length e n
@@ -49,6 +47,7 @@ pub record Front (e p n : ℕ) (labels witness transcript challenges blinders sc
   pub no_zero : NoZero p n labels witness (get_or challenges 0 0) (get_or challenges 1 0)
 
 pub record Checked (e p n : ℕ) (selectors labels witness publics transcript challenges blinders scratch : List ℕ) : Type 0 where
+  pub admissible : Admissible p n
   pub ready : Ready e p n selectors labels publics challenges scratch
   pub front : Front e p n labels witness transcript challenges blinders scratch
 
@@ -57,9 +56,9 @@ pub checked_of : {e p n l : ℕ} {selectors labels witness publics transcript ch
     → Checked e p n selectors labels witness publics transcript challenges blinders scratch
 checked_of {e} {p} {n} {l} {selectors} {labels} small A =
     record {
+      admissible = A.honest.admissible;
       ready = record {
         small = small;
-        admissible = A.honest.admissible;
         elements = selectors-right A.honest.circuit-right;
         labelled = labels_right A.honest.circuit-right;
         publics_below = A.honest.publics-right.below;
@@ -68,7 +67,6 @@ checked_of {e} {p} {n} {l} {selectors} {labels} small A =
       };
       front = record {
         blinding = record { small = small; long = omega (arith, A.honest.blinders-right.long) };
-        admissible = A.honest.admissible;
         labelled = labels_right A.honest.circuit-right;
         elements = A.honest.witness-right;
         transcript_long = A.honest.transcript_long;

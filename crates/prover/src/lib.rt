@@ -16,12 +16,12 @@ ghost use Rattle.prover.specs.Promises.{proved_from, Proves};
 ghost use Rattle.prover.specs.Buffers.{lent_f, Ready, Front, Checked};
 
 use field::Refusal;
+use field::rows::Domain;
 
 // F at the start of the scratch, from a, b, c and z as they are laid. The prepared circuit stands in an array of its own.
 fn fill_f(
     e: usize,
-    p: u32,
-    n: u32,
+    domain: &Domain,
     selectors: &[u32],
     labels: &[u32],
     publics: &[u32],
@@ -29,18 +29,16 @@ fn fill_f(
     challenges: &[u32],
     scratch: &mut [u32],
 )
-    requires { Ready e p n selectors.now labels.now publics.now challenges.now scratch.old × (length laid.now ≡ t_start e n) }
-    ensures { take (f_length e n) scratch.new ≡ reduced p (f_length e n) (lent_f e p n selectors.now labels.now publics.now laid.now challenges.now) }
+    requires { Ready e domain.now.p domain.now.n selectors.now labels.now publics.now challenges.now scratch.old × (length laid.now ≡ t_start e domain.now.n) }
+    ensures { take (f_length e domain.now.n) scratch.new ≡ reduced domain.now.p (f_length e domain.now.n) (lent_f e domain.now.p domain.now.n selectors.now labels.now publics.now laid.now challenges.now) }
 {
-    let m = n as usize;
+    let m = domain.n as usize;
     let k = circuit::prepared_length(m);
     let room = transform::scratch_length(m);
     let end = circuit::f_length(e, m);
     let mut prepared: [u32; circuit::PREPARED_ROOM] = field::room();
-    let powers = field::domain_points(p, n);
     preparing::work(
-        p,
-        n,
+        domain,
         selectors,
         labels,
         &mut prepared[..k],
@@ -48,9 +46,7 @@ fn fill_f(
     );
     quotients::fill(
         e,
-        p,
-        n,
-        &powers[..m],
+        domain,
         publics,
         &prepared[..k],
         laid,
@@ -64,8 +60,7 @@ fn fill_f(
 // t behind a, b, c and z: the quotient of F by X^n - 1.
 fn lay_t(
     e: usize,
-    p: u32,
-    n: u32,
+    domain: &Domain,
     selectors: &[u32],
     labels: &[u32],
     publics: &[u32],
@@ -73,16 +68,15 @@ fn lay_t(
     challenges: &[u32],
     scratch: &mut [u32],
 )
-    requires { Ready e p n selectors.now labels.now publics.now challenges.now scratch.old × (length transcript.old ≡ transcript_length e n) }
-    ensures { transcript.new ≡ take (t_start e n) transcript.old ++ quotient e p n (lent_f e p n selectors.now labels.now publics.now (take (t_start e n) transcript.old) challenges.now) }
+    requires { Ready e domain.now.p domain.now.n selectors.now labels.now publics.now challenges.now scratch.old × (length transcript.old ≡ transcript_length e domain.now.n) }
+    ensures { transcript.new ≡ take (t_start e domain.now.n) transcript.old ++ quotient e domain.now.p domain.now.n (lent_f e domain.now.p domain.now.n selectors.now labels.now publics.now (take (t_start e domain.now.n) transcript.old) challenges.now) }
 {
-    let m = n as usize;
+    let m = domain.n as usize;
     let at = circuit::t_start(e, m);
     let end = circuit::f_length(e, m);
     fill_f(
         e,
-        p,
-        n,
+        domain,
         selectors,
         labels,
         publics,
@@ -90,14 +84,13 @@ fn lay_t(
         challenges,
         scratch,
     );
-    quotients::divide(p, m, &scratch[..end], &mut transcript[at..]);
+    quotients::divide(domain.p, m, &scratch[..end], &mut transcript[at..]);
 }
 
 // a, b, c and z at the transcript's start. The scratch is written.
 fn lay_front(
     e: usize,
-    p: u32,
-    n: u32,
+    domain: &Domain,
     labels: &[u32],
     witness: &[u32],
     transcript: &mut [u32],
@@ -105,17 +98,14 @@ fn lay_front(
     blinders: &[u32],
     scratch: &mut [u32],
 )
-    requires { Front e p n labels.now witness.now transcript.old challenges.now blinders.now scratch.old }
-    ensures { (selectors : List ℕ) → map (λ laid. laid ++ drop (t_start e n) transcript.old) (laid_rows e p n (lent_constraints n selectors labels.now) (lent_witness n witness.now) blinders.now (get_or challenges.now 0 0) (get_or challenges.now 1 0)) ≡ some transcript.new }
+    requires { Front e domain.now.p domain.now.n labels.now witness.now transcript.old challenges.now blinders.now scratch.old }
+    ensures { (selectors : List ℕ) → map (λ laid. laid ++ drop (t_start e domain.now.n) transcript.old) (laid_rows e domain.now.p domain.now.n (lent_constraints domain.now.n selectors labels.now) (lent_witness domain.now.n witness.now) blinders.now (get_or challenges.now 0 0) (get_or challenges.now 1 0)) ≡ some transcript.new }
 {
-    let m = n as usize;
+    let m = domain.n as usize;
     let end = circuit::t_start(e, m);
-    let powers = field::domain_points(p, n);
     laying::lay_rows(
         e,
-        p,
-        n,
-        &powers[..m],
+        domain,
         labels,
         witness,
         blinders,
@@ -144,11 +134,12 @@ fn work(
     ensures blinders_value { proved_from e p n selectors.now labels.now witness.now publics.now challenges.now blinders.now ≡ some transcript.new }
     ensures scratch_after { scratch.new ≡ replicate (work_length e n) 0 }
 {
+    let domain = Domain::new(p, n);
     lay_front(
-        e, p, n, labels, witness, transcript, challenges, blinders, scratch,
+        e, &domain, labels, witness, transcript, challenges, blinders, scratch,
     );
     lay_t(
-        e, p, n, selectors, labels, publics, transcript, challenges, scratch,
+        e, &domain, selectors, labels, publics, transcript, challenges, scratch,
     );
     scratch.fill(0);
 }
@@ -212,6 +203,7 @@ pub fn prove(
 }
 
 // The same, blinded by nine lent numbers: a, b, c and z have multiples of X^n - 1 added, and the transcript is 18 numbers longer.
+// Stays a call of its own beside `prove`: C calls both.
 pub fn prove_blinded(
     p: u32,
     n: u32,

@@ -10,18 +10,18 @@ ghost use Rattle.circuit.specs.Circuit.{lent_public};
 ghost use Rattle.protocol.specs.Protocol.{point_f};
 ghost use Rattle.quotients.specs.Buffers.{Fillable};
 
+use field::rows::Domain;
+
 mod division;
 mod gates;
 mod start;
 
 pub use division::divide;
 
-// F of a prepared circuit, public inputs, wires and z, whatever `out` held. `powers` are the domain points; `laid` are a, b, c and z.
+// F of a prepared circuit, public inputs, wires and z, whatever `out` held. `laid` are a, b, c and z.
 pub fn fill(
     e: usize,
-    p: u32,
-    n: u32,
-    powers: &[u32],
+    domain: &Domain,
     publics: &[u32],
     prepared: &[u32],
     laid: &[u32],
@@ -30,11 +30,12 @@ pub fn fill(
     alpha: u32,
     out: &mut [u32],
 )
-    requires { Fillable e p n powers.now publics.now prepared.now laid.now out.old }
-    ensures { out.new ≡ reduced p (f_length e n) (point_f e p n prepared.now (lent_public publics.now) laid.now beta gamma alpha) }
+    requires { Fillable e domain.now.p domain.now.n publics.now prepared.now laid.now out.old }
+    ensures { out.new ≡ reduced domain.now.p (f_length e domain.now.n)
+        (point_f e domain.now.p domain.now.n prepared.now (lent_public publics.now) laid.now beta gamma alpha) }
 {
     out.fill(0);
-    gates::add_public_gate(e, p, n, publics, prepared, laid, out);
-    steps::add_step(e, p, n, powers, prepared, laid, beta, gamma, alpha, out);
-    start::add_start(e, p, n, laid, alpha, out);
+    gates::add_public_gate(e, domain, publics, prepared, laid, out);
+    steps::add_step(e, domain, prepared, laid, beta, gamma, alpha, out);
+    start::add_start(e, domain, laid, alpha, out);
 }

@@ -1,11 +1,11 @@
 -- What the inner functions ask of their buffers, and a test of a verdict.
 --
 -- Checked p n selectors labels witness z challenges   what `check_rows` has checked: p and n are admissible, lengths and labels are right
--- StepLent p n witness z own wired   p is not 0, there are at most 1,024 rows, and the lengths are right
+-- Lent n selectors z           the lengths are right, for n rows
 -- Tags p n labels own wired      the tags of the positions, and of those that the permutation of the labels leads to
 --
 -- Assumes nothing.
-use Rattle.std.specs.Prelude.{◌≡◌, List, ℕ, ◌*◌, ◌≤◌, ◌<◌, length, get_or}
+use Rattle.std.specs.Prelude.{◌≡◌, List, ℕ, ◌*◌, length, get_or}
 use Rattle.algebra.specs.Lists.{tab}
 use Rattle.field.specs.Fields.{Admissible, tag}
 use Rattle.circuit.specs.Circuit.{permutation}
@@ -21,13 +21,9 @@ pub record Checked (p n : ℕ) (selectors labels witness z challenges : List ℕ
   pub z_length_lem : length z ≡ n
   pub challenges_length : length challenges ≡ 2
 
-pub record StepLent (p n : ℕ) (witness z own wired : List ℕ) : Type 0 where
-  pub modulus : 0 < p
-  pub few : n ≤ 1024
-  pub witness_length_lem : length witness ≡ witness_length n
+pub record Lent (n : ℕ) (selectors z : List ℕ) : Type 0 where
+  pub selectors_length_lem : length selectors ≡ selectors_length n
   pub z_length_lem : length z ≡ n
-  pub own_length : length own ≡ 3 * n
-  pub wired_length : length wired ≡ 3 * n
 
 pub record Tags (p n : ℕ) (labels own wired : List ℕ) : Type 0 where
   pub own_tags : own ≡ tab (tag p n) (3 * n)

@@ -11,6 +11,8 @@ ghost use Rattle.rowcheck.specs.Promises.{verdict_of, lent_z, ChecksRows};
 ghost use Rattle.rowcheck.specs.Buffers.{Checked};
 
 use field::Refusal;
+use field::rows::Domain;
+use rowwise::products::Products;
 
 mod reasons;
 mod verdicts;
@@ -46,20 +48,19 @@ fn work(
 {
     let m = n as usize;
     let k = 3 * m;
-    let own = rowwise::tables::own(p, n);
-    let wired = rowwise::tables::wired(p, n, labels);
-    verdicts::judge_rows(
+    let domain = Domain::new(p, n);
+    let own = rowwise::tables::own(&domain);
+    let wired = rowwise::tables::wired(&domain, labels);
+    let rows = Products {
         p,
-        m,
-        selectors,
+        n: m,
         witness,
-        publics,
-        z,
-        &own[..k],
-        &wired[..k],
-        challenges[0],
-        challenges[1],
-    )
+        own: &own[..k],
+        wired: &wired[..k],
+        beta: challenges[0],
+        gamma: challenges[1],
+    };
+    verdicts::judge_rows(&rows, selectors, publics, z)
 }
 
 // Whether the three identities hold at every row, and where not, at which first.

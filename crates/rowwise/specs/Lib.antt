@@ -1,2 +1,3 @@
 -- Definitions, then theorems.
 pub mod Rows
+pub mod Products

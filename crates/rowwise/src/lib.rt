@@ -2,5 +2,6 @@
 // layers above have checked their numbers.
 #![tactic(auto)]
 
+pub mod products;
 pub mod rows;
 pub mod tables;

@@ -43,6 +43,7 @@ fn row_block(width: usize, line: usize, count: usize) -> Block
     }
 }
 
+// Stay six: each names what is lent, and is one call of the two above with its constants.
 pub fn selectors(n: usize) -> Block
     requires { n ≤ sheet_rows }
     ensures { result ≡ selectors_block n }

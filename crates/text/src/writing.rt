@@ -1,4 +1,5 @@
 // Numbers and lines in a text of bytes: writing. Each function puts a run of bytes at a place of a buffer, and answers where the next byte goes.
+// Stays without Display: a text is the bytes of a lent buffer, and its definitions (`line_text`, `decimal`) are of bytes.
 ghost use Rattle.std.specs.Prelude.{◌≡◌, ◌∷◌, [], ◌+◌, ◌*◌, ◌<◌, ◌≤◌, length};
 ghost use Rattle.text.specs.Text.{decimal_of, decimal, fields_text, line_text, line_of, refused_text};
 ghost use Rattle.text.specs.Puts.{field_bytes, Puts};

@@ -33,6 +33,7 @@ pub fn to_rows(n: u32, columns: &[u32], rows: &mut [u32]) -> Result<(), Refusal>
 }
 
 // 3n numbers that stand row by row, column after column: the wire values in the order of their positions.
+// Stays a call of its own beside `to_rows`: C calls both.
 pub fn to_columns(n: u32, rows: &[u32], columns: &mut [u32]) -> Result<(), Refusal>
     ensures { Transfers n (to_columns n) rows.now columns.old (told result) columns.new }
 {

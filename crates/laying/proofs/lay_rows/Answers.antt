@@ -9,7 +9,8 @@ use Rattle.laying.proofs.lay_rows.Goals as goal
 pub returns : goal.returns
 returns c selectors =
     let a = c.args in
+    let d = a.domain.now in
     let fits : c.z_start-k.result ≤ length a.out.now = omega (arith, c.z_start-k.ensures, c.requires.out_len.0) in
-    wires_laid a.e a.p a.n (lent_witness a.n a.witness.now) (lent_constraints a.n selectors a.labels.now) a.blinders.now a.beta a.gamma _ (c.lay_z.ensures selectors)
+    wires_laid a.e d.p d.n (lent_witness d.n a.witness.now) (lent_constraints d.n selectors a.labels.now) a.blinders.now a.beta a.gamma _ (c.lay_z.ensures selectors)
     ∙ ap {B = Option (List ℕ)} some
     (sym (both_parts c.z_start-k.result a.out.now c.lay_wires.new.out fits c.lay_wires.auto.out c.lay_z.new.out _ _ c.lay_wires.ensures refl))

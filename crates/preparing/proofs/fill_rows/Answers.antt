@@ -4,10 +4,11 @@ use Rattle.algebra.specs.Ends.{rest_length}
 use Rattle.circuit.specs.RightlyLent.{labels_of}
 use Rattle.preparing.proofs.fill_rows.Goals as goal
 
-pub wired_tags-requires-clause-labels : goal.wired_tags-requires-clause-labels
-wired_tags-requires-clause-labels c =
-    let labels = c.requires.selectors_len.1 in (
-      labels_of _ c.args.labels.now labels c.requires.points.admissible,
+pub wired_tags-requires : goal.wired_tags-requires
+wired_tags-requires c =
+    let labels = c.requires.labels in
+    let copied = c.copy_from_slice in (
+      labels_of _ c.args.labels.now labels c.args.domain.now.admissible,
       labels.long,
-      rest_length (length c.args.selectors.now) c.args.out.now c.copy_from_slice.new.self (omega arith) c.copy_from_slice.auto.self ∙ omega arith,
+      rest_length (length c.args.selectors.now) c.args.out.now copied.new.self (omega arith) copied.auto.self ∙ omega arith,
     )

@@ -15,36 +15,38 @@ use Rattle.prover.proofs.lay_t.Goals as goal
 pub divide-requires : goal.divide-requires
 divide-requires c =
     let R = c.requires.0 in
+    let A = c.args.domain.now.admissible in
     let T = c.args.transcript.now in
     let fits : c.f_length-end.result ≤ length c.fill_f.new.scratch = omega (arith, c.fill_f.auto.scratch, c.f_length-end.ensures, filling_fits R) in
-    let rest = ap (λ (i : ℕ). length (take (length T - i) (drop i T))) c.t_start-at.ensures ∙ rest_long R T c.requires.1 in (
-      omega (arith, (field_prime _ R.admissible.one_of_three).two),
-      omega (arith, (rows-power _ _ R.admissible.rows).least),
-      length-take-le _ _ fits ∙ c.f_length-end.ensures ∙ ap (λ (m : ℕ). c.args.n + m) (sym rest),
+    let rest = ap (λ (i : ℕ). length (take (length T - i) (drop i T))) c.t_start-at.ensures ∙ rest_long A _ T c.requires.1 in (
+      omega (arith, (field_prime _ A.one_of_three).two),
+      omega (arith, (rows-power _ _ A.rows).least),
+      length-take-le _ _ fits ∙ c.f_length-end.ensures ∙ ap (λ (m : ℕ). c.args.domain.now.n + m) (sym rest),
     )
 
 pub returns : goal.returns
 unfolding quotient
 returns c =
     let a = c.args in
+    let d = a.domain.now in
     let T = a.transcript.now in
-    let d = a.challenges.now in
+    let g = a.challenges.now in
     let f = take c.f_length-end.result c.fill_f.new.scratch in
-    let least = (rows-power _ _ c.requires.0.admissible.rows).least in
-    let front : take c.t_start-at.result T ≡ take (t_start a.e a.n) T = ap (λ (i : ℕ). take i T) c.t_start-at.ensures in
-    let rest : length (take (length T - c.t_start-at.result) (drop c.t_start-at.result T)) ≡ quotient_length a.e a.n =
-    ap (λ (i : ℕ). length (take (length T - i) (drop i T))) c.t_start-at.ensures ∙ rest_long c.requires.0 T c.requires.1
+    let least = (rows-power _ _ d.admissible.rows).least in
+    let front : take c.t_start-at.result T ≡ take (t_start a.e d.n) T = ap (λ (i : ℕ). take i T) c.t_start-at.ensures in
+    let rest : length (take (length T - c.t_start-at.result) (drop c.t_start-at.result T)) ≡ quotient_length a.e d.n =
+    ap (λ (i : ℕ). length (take (length T - i) (drop i T))) c.t_start-at.ensures ∙ rest_long d.admissible _ T c.requires.1
     in
     rest_put c.t_start-at.result T c.divide.new.t
     ∙ ap₂ (λ (i l : List ℕ). i ++ l) front
     (c.divide.ensures
-    ∙ ap (λ (m : ℕ). reduced a.p m (quotient_vanishing a.n m f)) rest
-    ∙ quotient_sees a.e a.p a.n f _ (omega (arith, least))
-    (length-point_f a.e a.p a.n (prepared a.p a.n (lent_constraints a.n a.selectors.now a.labels.now)) (lent_public a.publics.now) (take (t_start a.e a.n) T)
-    (get_or d 0 0)
-    (get_or d 1 0)
-    (get_or d 2 0)
+    ∙ ap (λ (m : ℕ). reduced d.p m (quotient_vanishing d.n m f)) rest
+    ∙ quotient_sees a.e d.p d.n f _ (omega (arith, least))
+    (length-point_f a.e d.p d.n (prepared d.p d.n (lent_constraints d.n a.selectors.now a.labels.now)) (lent_public a.publics.now) (take (t_start a.e d.n) T)
+    (get_or g 0 0)
+    (get_or g 1 0)
+    (get_or g 2 0)
     least)
     (ap (λ (i : ℕ). take i c.fill_f.new.scratch) c.f_length-end.ensures
     ∙ c.fill_f.ensures
-    ∙ ap (λ (l : List ℕ). reduced a.p (f_length a.e a.n) (lent_f a.e a.p a.n a.selectors.now a.labels.now a.publics.now l d)) front))
+    ∙ ap (λ (l : List ℕ). reduced d.p (f_length a.e d.n) (lent_f a.e d.p d.n a.selectors.now a.labels.now a.publics.now l g)) front))

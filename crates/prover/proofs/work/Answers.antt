@@ -6,7 +6,8 @@ use Rattle.prover.proofs.work.Goals as goal
 pub returns-clause-blinders_value : goal.returns-clause-blinders_value
 returns-clause-blinders_value c =
     let a = c.args in
-    transcript_of_lem (domain _ _ c.requires.ready.admissible) a.e a.selectors.now a.labels.now a.witness.now a.publics.now a.challenges.now a.blinders.now
+    rw (← c.new-domain.ensures.0, ← c.new-domain.ensures.1)
+    (transcript_of_lem (domain _ _ c.new-domain.result.admissible) a.e a.selectors.now a.labels.now a.witness.now a.publics.now a.challenges.now a.blinders.now
     c.lay_front.new.transcript _ c.lay_t.new.transcript
     (c.lay_front.ensures a.selectors.now)
-    c.lay_t.ensures
+    c.lay_t.ensures)

@@ -3,15 +3,20 @@ use Rattle.std.proofs.Common.{length-take-le, arith}
 use Rattle.field.specs.Primes.{field_prime, rows-power}
 use Rattle.rowcheck.proofs.work.Goals as goal
 
-pub judge_rows-requires : goal.judge_rows-requires
-judge_rows-requires c = (
-  record {
-    modulus = omega (arith, (field_prime _ c.requires.admissible.one_of_three).two);
-    few = (rows-power _ _ c.requires.admissible.rows).small;
-    witness_length_lem = c.requires.witness_length_lem;
-    z_length_lem = c.requires.z_length_lem;
-    own_length = length-take-le _ _ c.own-own.ensures.0;
-    wired_length = length-take-le _ _ c.wired-wired.ensures.0;
-  },
-  c.requires.selectors_length_lem,
-)
+pub invariant_of-rows : goal.invariant_of-rows
+invariant_of-rows c =
+    let A = c.requires.admissible in
+    let rows = c.new-domain.ensures.1 in
+    record {
+      positive = omega (arith, (field_prime _ A.one_of_three).two);
+      few = (rows-power _ _ A.rows).small;
+      filled = c.requires.witness_length_lem;
+      own_length = length-take-le _ _ (rw (← rows) c.own-own.ensures.fits);
+      wired_length = length-take-le _ _ (rw (← rows) c.wired-wired.ensures.fits);
+    }
+
+pub returns : goal.returns
+returns c =
+    let d = c.new-domain.ensures in
+    c.judge_rows.ensures c.args.labels.now
+    (record { own_tags = rw (← d.0, ← d.1) c.own-own.ensures.tags; wired_tags = rw (← d.0, ← d.1) c.wired-wired.ensures.tags })

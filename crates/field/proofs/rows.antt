@@ -1,0 +1,2 @@
+-- What the proofs of the domain's methods cite.
+pub mod Fits
