@@ -41,7 +41,7 @@ abbrev pub verdict_text : PointVerdict → List ℕ
 verdict_text accept = accept_word ++ (10 ∷ [])
 verdict_text reject = reject_word ++ (10 ∷ [])
 
--- the same of the answer's enum; nothing where there is no verdict
+-- the same of the answer's enum
 abbrev pub judged_text : Judged → List ℕ
 judged_text Accept = verdict_text accept
 judged_text Reject = verdict_text reject

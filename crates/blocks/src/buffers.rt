@@ -86,6 +86,7 @@ fn outcome_filled(rt: HostRuntime, xs: &[u32], was: &[u32]) {
 }
 
 // What became of the buffer of a line that is there, and of the words behind it, which were not lent.
+// Stays with a flag, `filled`: whether the call fills more than a sheet has is told by the line of the case.
 pub fn look(rt: HostRuntime, line: &[u8], filled: bool, words: &Room) {
     if line.is_empty() {
         return;

@@ -13,6 +13,7 @@ const MARK: u8 = 255;
 
 pub type Room = [u8; ROOM];
 
+// Stays beside `field::room`: it is filled with marks.
 fn room() -> Room
     ensures { 73728 ≡ length result }
 {

@@ -23,7 +23,7 @@ pub fn wire_values(n: usize, witness: &[u32], out: &mut [u32])
 }
 
 // The wire values of a column, one for each row.
-// Stays beside `wire_values`: that one goes through all positions, by two divisions each.
+// Stays beside `wire_values`, which is over positions: as three calls of this one, with three parts of `out`, it would be no plainer.
 pub fn column_values(n: usize, witness: &[u32], column: usize, out: &mut [u32])
     requires { (n ≤ 1024) × (column < 3) × (length witness.now ≡ witness_length n) × (length out.old ≡ n) }
     ensures { out.new ≡ tab (λ i. lent_witness n witness.now (position n column i)) n }

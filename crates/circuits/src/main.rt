@@ -12,7 +12,7 @@ fn every_size(rt: HostRuntime, p: u32, greatest: u32)
     requires { greatest ≤ 1024 }
 {
     let mut n: u32 = 2;
-    // Stays a while: n doubles, and a `for` over its exponents would be no plainer.
+    // Stays a while: n doubles. A `for` over its exponents would need the greatest one, and n from it, in two lines more.
     while n <= greatest {
         random_cases::there_and_back(rt, p, n);
         if p != 97 {

@@ -1,5 +1,5 @@
 // The table of a sheet's numbers, line after line: LINE_WORDS words for each line, the first of which are its numbers.
-// Stays one array with places: its memory is fixed, and its definitions (`table_place`) count so.
+// Stays one array with places: its definitions (`table_place`) count so.
 ghost use Rattle.std.specs.Prelude.{◌≡◌, ◌≤◌, ◌<◌};
 ghost use Rattle.sheet.specs.Table.{line_words, table_lines, table_place};
 
