@@ -13,7 +13,7 @@ ghost use Rattle.archive.specs.Printed.{text_length, work_text};
 ghost use Rattle.archive.specs.Work.{Lays, Judgeable, Checkable, Workable, judged_from, checked_text};
 
 use crate::lines::{put_judged, put_refusal, put_transcript};
-use crate::rooms::{PREPARED, SCRATCH, TRANSCRIPT};
+use crate::rooms;
 use field::Refusal;
 use pointcheck::Judged;
 
@@ -37,7 +37,7 @@ fn lay(
 {
     let m = n as usize;
     let end = circuit::work_length(e, m);
-    let mut scratch: [u32; SCRATCH] = field::room();
+    let mut scratch = rooms::scratch_room();
     prover::run(
         e,
         p,
@@ -61,7 +61,7 @@ fn prepare(p: u32, n: u32, l: u32, selectors: &[u32], labels: &[u32], prepared: 
 {
     let m = n as usize;
     let end = transform::scratch_length(m);
-    let mut scratch: [u32; SCRATCH] = field::room();
+    let mut scratch = rooms::scratch_room();
     preparing::prepare(p, n, l, selectors, labels, prepared, &mut scratch[..end]).unwrap();
 }
 
@@ -81,7 +81,7 @@ fn check(
 {
     let m = n as usize;
     let end = circuit::work_length(e, m);
-    let mut scratch: [u32; SCRATCH] = field::room();
+    let mut scratch = rooms::scratch_room();
     pointcheck::check_point(
         p,
         n,
@@ -112,7 +112,7 @@ fn judge(
 {
     let m = n as usize;
     let end = circuit::prepared_length(m);
-    let mut prepared: [u32; PREPARED] = field::room();
+    let mut prepared = rooms::prepared_room();
     prepare(p, n, l, selectors, labels, &mut prepared[..end]);
     check(
         e,
@@ -169,7 +169,7 @@ pub fn print_work(
 {
     let m = n as usize;
     let end = circuit::transcript_length(e, m);
-    let mut transcript: [u32; TRANSCRIPT] = field::room();
+    let mut transcript = rooms::transcript_room();
     let laid = lay(
         e,
         p,

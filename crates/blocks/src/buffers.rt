@@ -2,7 +2,7 @@
 //
 // A buffer stands at the start of a room, which has more words than are lent. Marks, numbers that no result has, stand in the words that may hold
 // anything and behind the buffer.
-ghost use Rattle.std.specs.Prelude.{◌≡◌, length};
+ghost use Rattle.std.specs.Prelude.{◌≡◌, length, take};
 
 use super::words::{MARK, first, first_mut, progression};
 use super::{lines, print};
@@ -57,7 +57,9 @@ pub fn lent<'a>(xs: &'a mut [u32], line: &[u8]) -> &'a mut [u32] {
 }
 
 // The words up to the last that is not 0.
-fn used(xs: &[u32]) -> &[u32] {
+fn used(xs: &[u32]) -> &[u32]
+    ensures { result.now ≡ take (length result.now) xs.now }
+{
     let k = xs.iter().rposition(|x| *x != 0).map_or(0, |k| k + 1);
     first(xs, k)
 }

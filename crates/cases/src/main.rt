@@ -25,6 +25,12 @@ mod words;
 // Room for a file of cases.
 const FILE_ROOM: usize = 524288;
 
+fn file_room() -> [u8; FILE_ROOM]
+    ensures { 524288 ≡ length result }
+{
+    field::room()
+}
+
 // The call that a block names is made.
 fn run_block(rt: HostRuntime, s: &[u8]) {
     match lines::line(s, 0) {
@@ -63,7 +69,7 @@ fn run_all(rt: HostRuntime, mut s: &[u8]) {
 
 // The file that argument i names; none where it cannot be read, which is told.
 fn run_file(rt: HostRuntime, i: usize) -> Option<()> {
-    let mut file: [u8; FILE_ROOM] = field::room();
+    let mut file = file_room();
     let n = streams::read_file(rt, i, &mut file)?;
     run_all(rt, &file[..n]);
     Some(())

@@ -2,7 +2,7 @@
 #![tactic(auto)]
 
 fn main(rt: HostRuntime) {
-    let mut sheet: [u8; sheet::SHEET_ROOM] = field::room();
+    let mut sheet = sheet::sheet_room();
     let Some(n) = streams::read_input(rt, &mut sheet) else {
         return;
     };

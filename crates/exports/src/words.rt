@@ -15,8 +15,9 @@ const NO_ELEMENT: u32 = 4294967295;
 fn lay(words: &[u32], buffer: &mut [u32])
     ensures { buffer.new ≡ over words.now buffer.old }
 {
-    let k = words.len().min(buffer.len());
-    buffer[..k].copy_from_slice(&words[..k]);
+    for k in 0..words.len().min(buffer.len()) {
+        buffer[k] = words[k];
+    }
 }
 
 // What a call gives, none where it is turned down. Its words stand behind the answer's number and detail.

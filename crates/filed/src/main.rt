@@ -170,7 +170,7 @@ fn print_judged(rt: HostRuntime, i: usize, sheet: &[u8], text: &[u8]) -> Option<
         return None;
     }
     let mut name = io::buffer();
-    let n = streams::arg(rt, i, &mut name)?;
+    let n = streams::arg(rt, i, &mut name);
     streams::print(rt, &name[..n])?;
     judge(rt, sheet, text);
     Some(())
@@ -179,9 +179,9 @@ fn print_judged(rt: HostRuntime, i: usize, sheet: &[u8], text: &[u8]) -> Option<
 // The deposit whose sheet argument i names, and whose text the next one does. None where one of them cannot be read, or not be judged: what failed is
 // told.
 fn judge_filed(rt: HostRuntime, i: usize, next: usize) -> Option<()> {
-    let mut sheet: [u8; sheet::SHEET_ROOM] = field::room();
+    let mut sheet = sheet::sheet_room();
     let n = streams::read_file(rt, i, &mut sheet)?;
-    let mut text: [u8; sheet::SHEET_ROOM] = field::room();
+    let mut text = sheet::sheet_room();
     let m = streams::read_file(rt, next, &mut text)?;
     print_judged(rt, i, &sheet[..n], &text[..m])
 }
@@ -195,7 +195,8 @@ fn main(rt: HostRuntime) {
         );
         return;
     }
-    for k in 0..end / 2 {
+    // Deposits past the first 32,768 are not looked at.
+    for k in 0..(end / 2).min(32768) {
         if judge_filed(rt, 2 * k + 1, 2 * k + 2).is_none() {
             return;
         }

@@ -22,11 +22,11 @@ fn main(rt: HostRuntime) {
         );
         return;
     }
-    let mut one: [u8; sheet::SHEET_ROOM] = field::room();
+    let mut one = sheet::sheet_room();
     let Some(n) = streams::read_file(rt, 1, &mut one) else {
         return;
     };
-    let mut two: [u8; sheet::SHEET_ROOM] = field::room();
+    let mut two = sheet::sheet_room();
     let Some(m) = streams::read_file(rt, 2, &mut two) else {
         return;
     };

@@ -49,6 +49,7 @@ fn count_last(numbers: &[u32], next: &[u32]) -> u32
 }
 
 // How many different numbers there are.
+#[inline(never)]
 pub fn count_different(numbers: &[u32]) -> u32
     requires { length numbers.now ≤ 3072 }
     ensures { result ≡ different numbers.now }

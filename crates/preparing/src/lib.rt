@@ -43,7 +43,7 @@ fn fill_rows(domain: &Domain, selectors: &[u32], labels: &[u32], out: &mut [u32]
     ensures { out.new ≡ rows_of domain.now.p domain.now.n selectors.now labels.now }
 {
     let m = selectors.len();
-    out[..m].copy_from_slice(selectors);
+    transform::slices::copy(selectors, &mut out[..m]);
     circuit::wired_tags(domain, labels, &mut out[m..]);
 }
 

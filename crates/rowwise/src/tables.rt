@@ -2,6 +2,7 @@
 ghost use Rattle.std.specs.Prelude.{◌≡◌, ◌*◌, ◌<◌, ◌≤◌, length, get_or, take};
 ghost use Rattle.algebra.specs.Lists.{tab};
 ghost use Rattle.field.specs.Fields.{tag};
+ghost use Rattle.field.specs.Rooms.{positions_room};
 ghost use Rattle.circuit.specs.Circuit.{permutation};
 ghost use Rattle.circuit.specs.Buffers.{labels_length};
 ghost use Rattle.circuit.specs.Ahead.{Labels};
@@ -18,36 +19,36 @@ fn lay_positions(out: &mut [u32])
     }
 }
 
-// The first 3n positions of an array replaced by their tags.
-fn tagged(
-    domain: &Domain,
-    mut positions: [u32; field::POSITIONS_ROOM],
-) -> [u32; field::POSITIONS_ROOM]
-    ensures fits { 3 * domain.now.n ≤ length result }
-    ensures tags { take (3 * domain.now.n) result ≡ tab (λ k. tag domain.now.p domain.now.n (get_or positions k 0)) (3 * domain.now.n) }
+// The tags of the positions from 0 on.
+fn lay_tags(domain: &Domain, out: &mut [u32])
+    requires { length out.old < 4294967296 }
+    ensures { out.new ≡ tab (tag domain.now.p domain.now.n) (length out.old) }
 {
-    let m = domain.n as usize;
-    circuit::tags_in_place(domain, &mut positions[..3 * m]);
-    positions
+    lay_positions(out);
+    circuit::tags_in_place(domain, out);
 }
 
 // The tags of the positions.
 pub fn own(domain: &Domain) -> [u32; field::POSITIONS_ROOM]
+    ensures room { positions_room ≡ length result }
     ensures fits { 3 * domain.now.n ≤ length result }
     ensures tags { take (3 * domain.now.n) result ≡ tab (tag domain.now.p domain.now.n) (3 * domain.now.n) }
 {
-    let mut positions = field::room();
-    lay_positions(&mut positions);
-    tagged(domain, positions)
+    let mut tags = [0; field::POSITIONS_ROOM];
+    let k = 3 * domain.n as usize;
+    lay_tags(domain, &mut tags[..k]);
+    tags
 }
 
-// The tags of the positions that the permutation leads to.
+// The tags of the positions that the permutation leads to. It is not inlined, so that the permutation's array does not stay on the stack of its callers.
+#[inline(never)]
 pub fn wired(domain: &Domain, labels: &[u32]) -> [u32; field::POSITIONS_ROOM]
     requires { Labels labels.now × (length labels.now ≡ labels_length domain.now.n) }
     ensures fits { 3 * domain.now.n ≤ length result }
     ensures tags { take (3 * domain.now.n) result ≡ tab (λ k. tag domain.now.p domain.now.n (permutation (3 * domain.now.n) (λ j. get_or labels.now j 0) k)) (3 * domain.now.n) }
 {
-    let mut positions = field::room();
-    circuit::fill_permutation(labels, &mut positions[..labels.len()]);
-    tagged(domain, positions)
+    let mut tags = [0; field::POSITIONS_ROOM];
+    let k = 3 * domain.n as usize;
+    circuit::wired_tags(domain, labels, &mut tags[..k]);
+    tags
 }

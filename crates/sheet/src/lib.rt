@@ -4,7 +4,7 @@
 // count from 0 in the code, as in the definitions.
 #![tactic(auto)]
 
-ghost use Rattle.std.specs.Prelude.{◌≡◌, cond};
+ghost use Rattle.std.specs.Prelude.{◌≡◌, cond, length};
 ghost use Rattle.field.specs.Reasons.{outcome};
 ghost use Rattle.sheet.specs.Promises.{Reads};
 
@@ -53,8 +53,15 @@ pub fn blinder_lines(blinded: bool) -> usize
     usize::from(blinded)
 }
 
-// One byte more than a sheet may have, for a program that reads one: input that fills it is too long, however much follows.
+// One byte more than a sheet may have.
 pub const SHEET_ROOM: usize = 65537;
+
+// Room for a program that reads a sheet: input that fills it is too long, however much follows.
+pub fn sheet_room() -> [u8; SHEET_ROOM]
+    ensures { 65537 ≡ length result }
+{
+    field::room()
+}
 
 // The numbers of a sheet, laid out for ROWS rows, the blinders behind the challenges. All refusals are found before a lent word is written.
 pub fn read(

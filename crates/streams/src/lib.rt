@@ -166,9 +166,9 @@ pub fn arg_count(rt: HostRuntime) -> usize {
     usize::MAX
 }
 
-// Puts argument i at the start of `out`: how long it is, or none where it is not there or is longer than `out`.
-pub fn arg(rt: HostRuntime, i: usize, out: &mut [u8]) -> Option<usize>
-    ensures { IsPrefixLen (bytes_of result) out.new }
+// Puts argument i at the start of `out`: how long it is, or 0 where there is none or it is longer than `out`.
+pub fn arg(rt: HostRuntime, i: usize, out: &mut [u8]) -> usize
+    ensures { IsPrefixLen result out.new }
 {
-    rt.arg(i, out).ok()
+    rt.arg(i, out).unwrap_or(0)
 }

@@ -7,8 +7,8 @@ use Rattle.preparing.proofs.fill_rows.Goals as goal
 pub wired_tags-requires : goal.wired_tags-requires
 wired_tags-requires c =
     let labels = c.requires.labels in
-    let copied = c.copy_from_slice in (
+    let copied = c.copy in (
       labels_of _ c.args.labels.now labels c.args.domain.now.admissible,
       labels.long,
-      rest_length (length c.args.selectors.now) c.args.out.now copied.new.self (omega arith) copied.auto.self ∙ omega arith,
+      rest_length (length c.args.selectors.now) c.args.out.now copied.new.to (omega arith) copied.auto.to ∙ omega arith,
     )

@@ -10,19 +10,19 @@ use Rattle.field.specs.ReasonLaws.{ok_value}
 use Rattle.pointcheck.specs.Promises.{judged_at}
 use Rattle.archive.specs.Work.{judged_of}
 use Rattle.archive.proofs.work.check.Goals as goal
-use Rattle.archive.proofs.work.check.Goals.{After-room-scratch, After-check_point}
+use Rattle.archive.proofs.work.check.Goals.{After-scratch_room-scratch, After-check_point}
 
 -- the scratch has room
-fits : (c : After-room-scratch) → c.work_length-end.result ≤ length c.room-scratch.result
+fits : (c : After-scratch_room-scratch) → c.work_length-end.result ≤ length c.scratch_room-scratch.result
 fits c =
-    omega (arith, c.room-scratch.ensures, c.work_length-end.ensures, c.requires.few)
+    omega (arith, c.scratch_room-scratch.ensures, c.work_length-end.ensures, c.requires.few)
 
 pub slice_bounds-check_point-end : goal.slice_bounds-check_point-end
 slice_bounds-check_point-end c =
-    sym (length-take-le _ _ (fits (goal.at.slice_bounds-check_point-end c).After-room-scratch))
+    sym (length-take-le _ _ (fits (goal.at.slice_bounds-check_point-end c).After-scratch_room-scratch))
 
 judged : (c : After-check_point) → (outcome c.check_point.result).value ≡ Some (judged_at c.args.p c.args.n c.args.publics.now c.args.prepared.now c.args.transcript.now c.args.challenges.now)
-judged c = judged_of _ _ _ c.requires (length-take-le _ _ (omega (arith, c.room-scratch.ensures, c.work_length-end.ensures, c.requires.few)) ∙ c.work_length-end.ensures) c.check_point.ensures
+judged c = judged_of _ _ _ c.requires (length-take-le _ _ (omega (arith, c.scratch_room-scratch.ensures, c.work_length-end.ensures, c.requires.few)) ∙ c.work_length-end.ensures) c.check_point.ensures
 
 pub unwrap-requires : goal.unwrap-requires
 unwrap-requires c = rw (ok_value c.check_point.result (judged (goal.at.unwrap-requires c).After-check_point)) refl
