@@ -12,6 +12,7 @@ use sheet::Sheet;
 const NO_ELEMENT: u32 = 4294967295;
 
 // The words over the start of a buffer.
+// Stays a `for` over the index: the library's `copy_from_slice` costs more than the few words that are laid.
 fn lay(words: &[u32], buffer: &mut [u32])
     ensures { buffer.new ≡ over words.now buffer.old }
 {
